@@ -1,0 +1,5 @@
+pub mod Linear
+pub mod Shift
+pub mod Over
+pub mod Parts
+pub mod Entries

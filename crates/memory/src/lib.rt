@@ -1,0 +1,4 @@
+pub mod address;
+pub mod memory;
+#[cfg(test)]
+mod tests;

@@ -1,0 +1,12 @@
+pub mod Bits
+pub mod Table
+pub mod Views
+pub mod Arrivals
+pub mod Opening
+pub mod Host
+pub mod Registers
+pub mod Plan
+pub mod Calls
+pub mod Ledger
+pub mod Explains
+pub mod Law
