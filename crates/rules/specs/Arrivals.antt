@@ -1,5 +1,5 @@
 -- What the line's calls do: begin, byte, end and abort.
---   count-up, noted                      a count, and INTSTAT after a count that leaves n
+--   count-up, noted, counted             a count, INTSTAT after a count that leaves n, and a count in MPCNT
 --   began                                a new arrival
 --   missed                               the arrival is missed: MPA, OVW, and a count in MPCNT
 --   wanted                               the descriptor that a byte without a place needs: CURR first
@@ -56,9 +56,12 @@ began s = record {
   phase = Address (0 ∷ 0 ∷ 0 ∷ 0 ∷ 0 ∷ 0 ∷ []) 0;
 }
 
+-- a count in MPCNT, which sets a bit of INTSTAT
+abbrev pub counted : ℕ → Registers → Registers
+counted bit r = with-mpcnt (with-intstat r (noted (count-up (r .mpcnt)) (with-bit bit (r .intstat)))) (count-up (r .mpcnt))
+
 abbrev pub missed-registers : Registers → Registers
-missed-registers r =
-    with-rstat (with-mpcnt (with-intstat r (noted (count-up (r .mpcnt)) (with-bit OVW (r .intstat)))) (count-up (r .mpcnt))) (with-bit MPA (r .rstat))
+missed-registers r = counted OVW (with-rstat r (with-bit MPA (r .rstat)))
 
 abbrev pub missed : State → State
 missed s = with-phase (with-registers s (missed-registers (s .registers))) Missed
@@ -158,8 +161,7 @@ finished g x t l =
     (over (view (x .memory) (with-registers (x .state) (mismatched l r))))))
 
 abbrev pub overrun-registers : Registers → Registers
-overrun-registers r =
-    with-rstat (with-mpcnt (with-intstat r (noted (count-up (r .mpcnt)) (with-bit RXE (r .intstat)))) (count-up (r .mpcnt))) (with-bit OVER (r .rstat))
+overrun-registers r = counted RXE (with-rstat r (with-bit OVER (r .rstat)))
 
 abbrev pub overrun : State → State
 overrun s = with-phase (with-registers s (overrun-registers (s .registers))) Idle

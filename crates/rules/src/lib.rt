@@ -1,1 +1,2 @@
+pub mod law;
 pub mod state;

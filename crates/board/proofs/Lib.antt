@@ -1,0 +1,3 @@
+mod Causes
+mod Pokes
+mod Scans

@@ -1,0 +1,6 @@
+mod arrival;
+pub mod board;
+mod descriptor;
+mod host;
+mod opening;
+mod registers;

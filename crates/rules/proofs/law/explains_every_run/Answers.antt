@@ -1,0 +1,5 @@
+use Rattle.rules.proofs.Joined.{law}
+use Rattle.rules.proofs.law.explains_every_run.Needs as need
+
+pub returns : need.returns
+returns c = law
