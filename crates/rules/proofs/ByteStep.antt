@@ -1,6 +1,4 @@
 -- A byte of the arrival under way.
---! as Rattle.crc.specs.Crc: start
---! as Rattle.rules.specs.Arrivals: recognised as store-recognised
 use mathlib.Core.Path.{_≡_, _∙_, ap, sym, subst, refl, subst₂}
 use mathlib.Core.Bool.{Bool, true, false, cond}
 use mathlib.Core.List.{List, _++_, _∷_, []}

@@ -1,5 +1,4 @@
 -- The end and the abort of an arrival: the board keeps it exactly when the ledger does.
---! as Rattle.crc.specs.Crc: start
 use mathlib.Core.Path.{_≡_, refl, ap, _∙_, sym, subst, subst₂}
 use mathlib.Core.Bool.{Bool, _&&_, not, _||_, true, false, cond}
 use mathlib.Core.List.{List, _++_, _∷_, []}

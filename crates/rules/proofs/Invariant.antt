@@ -3,8 +3,6 @@
 --   Invariant     the table, CURR and HOST, the frames given, MPA and the phase are as the ledger says
 --   history       the history of frames gone and frames that wait
 --   explains      a history whose invariant holds explains the board
---! as Rattle.crc.specs.Crc: start
---! as Rattle.rules.specs.Explains: waiting as waiting-in
 use mathlib.Core.Path.{_≡_, ap, _∙_, sym, refl}
 use mathlib.Core.Bool.{Bool, false, true, not}
 use mathlib.Core.List.{List, [], map, _∷_, _++_}

@@ -29,7 +29,7 @@ stored-same s m m′ (d ∷ e ∷ es) filled l a f =
     let Q : List ℕ → List ℕ = λ z. take (buffer s d .length) (drop (buffer s d .start .0) m) ++ z in
     ap P p ∙ ap Q q
 
-pub held-waiting-append : (fs gs : List Kept-frame) (d : ℕ) → held-waiting (fs ++ gs) d ≡ held-waiting fs d + held-waiting gs d
+held-waiting-append : (fs gs : List Kept-frame) (d : ℕ) → held-waiting (fs ++ gs) d ≡ held-waiting fs d + held-waiting gs d
 held-waiting-append [] gs d = omega arith
 held-waiting-append (f ∷ fs) gs d = let ih = held-waiting-append fs gs d in omega arith
 

@@ -1,5 +1,4 @@
 -- The receive table after an open: each descriptor is free, and has its buffer.
--- free, with the buffer u
 use mathlib.Core.Path.{_≡_, _∙_, refl, ap, subst, sym}
 use mathlib.Core.List.{List, [], _∷_}
 use mathlib.Core.Logic.{_⊎_, inl, ⊎-elim}
@@ -9,12 +8,13 @@ use lib.ListN.{length, set, getD}
 use Rattle.std.proofs.shelf.Lists.{length-set}
 use Rattle.layout.specs.declared.buffer.Buffer.{Buffer}
 use Rattle.rules.specs.declared.state.Descriptor.{Descriptor}
-use Rattle.rules.specs.Table.{descriptor-at, descriptor}
+use Rattle.rules.specs.Table.{descriptor, descriptor-at}
 use Rattle.rules.specs.Opening.{describe-at, described, describe-one}
-use Rattle.rules.specs.Plan.{Plan, buffer, number, summary}
+use Rattle.rules.specs.Plan.{buffer, Plan, number, summary}
 use Rattle.rules.proofs.Lawful.{Lawful}
 use Rattle.rules.proofs.Bytes.{set-elsewhere, set-here, descriptor-same}
 
+-- free, with the buffer u
 abbrev free-with : Buffer → Descriptor
 free-with u = record { flags = 0; status = 0; start = u .start .0; length = u .length; fill = 0 }
 

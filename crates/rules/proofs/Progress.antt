@@ -1,7 +1,7 @@
 -- Bytes of a recognised arrival, one after another: the board and the ledger stay in step.
 --   Stores, Misses    the phase of a recognised arrival beside the ledger's fill
 --   Progress          what bytes keep, from the view x₀ on
-use mathlib.Core.Path.{_≡_, ap, _∙_, refl, sym, subst₂, subst}
+use mathlib.Core.Path.{_≡_, ap, _∙_, refl, sym, subst, subst₂}
 use mathlib.Core.Bool.{true, Bool, _&&_, false}
 use mathlib.Core.List.{List, _++_, _∷_, []}
 use mathlib.Core.Logic.{_⊎_, inr, inl, ⊎-elim}
@@ -30,7 +30,7 @@ pub other-bit-keeps-mpa : (r c : ℕ) → c / 2 ^ 4 % 2 ≡ 0 → has MPA (bitOr
 other-bit-keeps-mpa r c h =
     ap (λ x. eqb x 1) (ap (λ y. y % 2) (or-shr r c 4) ∙ or-mod (r / 2 ^ 4) (c / 2 ^ 4) 1 ∙ ap (λ z. bitOr (r / 2 ^ 4 % 2) z) h ∙ or-zero-r (r / 2 ^ 4 % 2))
 
-pub mpa-set : (r : ℕ) → has MPA (with-bit MPA r) ≡ true
+mpa-set : (r : ℕ) → has MPA (with-bit MPA r) ≡ true
 mpa-set r = ap (λ x. eqb x 1) (ap (λ y. y % 2) (or-shr r 16 4) ∙ or-mod (r / 2 ^ 4) 1 1 ∙ go (r / 16 % 2) (omega arith))
   where
     go : (y : ℕ) → y < 2 → bitOr y 1 ≡ 1

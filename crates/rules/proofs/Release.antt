@@ -2,7 +2,7 @@
 use mathlib.Core.Path.{_≡_, refl, ap, sym, _∙_, subst}
 use mathlib.Core.Bool.{true, false, not, cond, _||_, _&&_}
 use mathlib.Core.List.{List, _++_, [], _∷_}
-use mathlib.Core.Logic.{⊎-elim, _⊎_, inr, inl}
+use mathlib.Core.Logic.{_⊎_, ⊎-elim, inr, inl}
 use Prim.Native.Nat.{_+_, ℕ, _<_, _≤_}
 use native.Mathlib.Omega.{arith}
 use lib.Dec.{ltb}
@@ -30,7 +30,7 @@ use Rattle.rules.proofs.Rows.{row-length}
 use Rattle.rules.proofs.Found.{all-lawful, found-gone, found-waiting}
 use Rattle.rules.proofs.TableFrames.{running, run-of, in-table-run, head-flags}
 
-pub all-front : {X : Type 0} (P : X → Type 0) (xs ys : List X) → All P (xs ++ ys) → All P xs
+all-front : {X : Type 0} (P : X → Type 0) (xs ys : List X) → All P (xs ++ ys) → All P xs
 all-front P [] ys a = tt
 all-front P (x ∷ xs) ys a = (a .0, all-front P xs ys (a .1))
 

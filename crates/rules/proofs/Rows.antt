@@ -1,9 +1,8 @@
 -- Descriptors in their order: rows of them, and k descriptors on.
---! as Rattle.rules.specs.Table: next as following
 use mathlib.Core.Path.{_≡_, _∙_, ap, subst, sym, refl}
 use mathlib.Core.Bool.{cond}
 use mathlib.Core.List.{List, [], _∷_, _++_}
-use mathlib.Core.Logic.{⊎-elim, _⊎_, inl, inr}
+use mathlib.Core.Logic.{_⊎_, ⊎-elim, inl, inr}
 use Prim.Native.Nat.{_-_, ℕ, _+_, _<_, zero, suc, _≤_}
 use native.Mathlib.Omega.{arith}
 use lib.Dec.{eqb, eqb·suc-zero, ltb}
@@ -30,7 +29,7 @@ module _ (s : Plan) (L : Lawful s) where
   onward-up zero d h = omega arith
   onward-up (suc k) d h = let e = next-up d (omega arith) in onward-up k (next s d) (omega arith) ∙ omega arith
 
-  pub onward-round : (k d : ℕ) → d < number s → k ≤ number s → number s ≤ d + k → onward (summary s) d k ≡ d + k - number s
+  onward-round : (k d : ℕ) → d < number s → k ≤ number s → number s ≤ d + k → onward (summary s) d k ≡ d + k - number s
   onward-round zero d dn kn h = omega arith
   onward-round (suc k) d dn kn h =
       ⊎-elim (λ q. let e = next-up d q in onward-round k (next s d) (omega arith) (omega arith) (omega arith) ∙ omega arith)
@@ -53,7 +52,7 @@ module _ (s : Plan) (L : Lawful s) where
       go (inl h) = let e = onward-up k d h in omega arith
       go (inr h) = let e = onward-round k d dn (omega arith) h in omega arith
 
-  pub onward-in-row : (ds : List ℕ) (d k : ℕ) → Row s d ds → k < length ds → 0 < times (onward (summary s) d k) ds
+  onward-in-row : (ds : List ℕ) (d k : ℕ) → Row s d ds → k < length ds → 0 < times (onward (summary s) d k) ds
   onward-in-row [] d k r h = absurd (omega arith)
   onward-in-row (x ∷ xs) d zero r h = subst (λ y. 0 < times y (x ∷ xs)) (r .0) (times-head x xs)
   onward-in-row (x ∷ xs) d (suc k) r h = times-tail (onward (summary s) (next s d) k) x xs (onward-in-row xs (next s d) k (r .1) (omega arith))

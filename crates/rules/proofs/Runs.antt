@@ -1,5 +1,4 @@
 -- The descriptors of a frame are lawful, and make a run with its bytes.
---! as Rattle.rules.specs.Table: next as following
 use mathlib.Core.Path.{ap, _≡_, refl, subst, sym, _∙_}
 use mathlib.Core.Bool.{not, _&&_, true, Bool, cond, false}
 use mathlib.Core.List.{List, [], _∷_, _++_}
@@ -22,7 +21,7 @@ use Rattle.rules.proofs.Bytes.{slice-length, span-is}
 use Rattle.rules.proofs.Flags.{flags-below, flags-held, flags-first, flags-last, flags-taken, alike-itself}
 use Rattle.rules.proofs.Encoding.{entry, vacant, Row, Encoded, stored}
 
-pub not-in-table : (s : Plan) (L : Lawful s) (d : ℕ) → d < number s →
+not-in-table : (s : Plan) (L : Lawful s) (d : ℕ) → d < number s →
     not (ltb (buffer s d .start .0) (s .shape .rend .0 * 256) && ltb (s .shape .rbegin .0 * 256) (buffer s d .start .0 + buffer s d .length)) ≡ true
 not-in-table s L d h =
     let c = L .clear d h in

@@ -1,5 +1,4 @@
 -- A frame that stands in the table: its run, its bytes and its first descriptor.
--- a board that is open, by its view
 use mathlib.Core.Path.{_≡_, ap, _∙_, sym}
 use mathlib.Core.Bool.{false, true, Bool, not}
 use mathlib.Core.List.{List, [], _∷_}
@@ -22,6 +21,7 @@ use Rattle.rules.proofs.Runs.{encoded-run, found-run, encoded-bytes}
 use Rattle.rules.proofs.KeepFrame.{stored-same}
 use Rattle.rules.proofs.Found.{untaken-at}
 
+-- a board that is open, by its view
 abbrev pub running : Plan → View → Shown
 running s x = record { shut = false; setup = summary s; view = x }
 

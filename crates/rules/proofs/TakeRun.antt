@@ -18,7 +18,7 @@ use Rattle.rules.proofs.Encoding.{Agree, entry, Row, Encoded}
 use Rattle.rules.proofs.Runs.{next-below}
 use Rattle.rules.proofs.Agrees.{agree-itself, agree-join, differs-from-head, head-not-in-tail, encoded-agree, row-below}
 
-pub flag-keeps-buffers : (s : Plan) (L : Lawful s) (m : List ℕ) (d v e : ℕ) → d < number s → e < number s → (i : ℕ) → i < buffer s e .length →
+flag-keeps-buffers : (s : Plan) (L : Lawful s) (m : List ℕ) (d v e : ℕ) → d < number s → e < number s → (i : ℕ) → i < buffer s e .length →
     getD (set m (place (summary s) d) v) (buffer s e .start .0 + i) 0 ≡ getD m (buffer s e .start .0 + i) 0
 flag-keeps-buffers s L m d v e dn en i il = set-elsewhere m (place (summary s) d) v (buffer s e .start .0 + i) (differs (L .clear e en))
   where
@@ -27,7 +27,7 @@ flag-keeps-buffers s L m d v e dn en i il = set-elsewhere m (place (summary s) d
     differs (inl c) q = omega arith
     differs (inr c) q = let r = L .room in omega arith
 
-pub flag-keeps-others : (s : Plan) (L : Lawful s) (m : List ℕ) (d v e : ℕ) → d < number s → e < number s → (e ≡ d → ⊥) → Agree s m (set m (place (summary s) d) v) e
+flag-keeps-others : (s : Plan) (L : Lawful s) (m : List ℕ) (d v e : ℕ) → d < number s → e < number s → (e ≡ d → ⊥) → Agree s m (set m (place (summary s) d) v) e
 flag-keeps-others s L m d v e dn en ne = record {
   entry = descriptor-same m (set m (place (summary s) d) v) (place (summary s) e) (λ a x y. set-elsewhere m (place (summary s) d) v a (omega arith));
   bytes = flag-keeps-buffers s L m d v e dn en;
