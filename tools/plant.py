@@ -5,7 +5,7 @@
 
 Run it from the repository's root. Each bug is an edit of one place in crates/CRATE/src, never in a contract, a
 definition or a proof: another comparison, `&&` for `||`, a test turned round, another constant, a statement left out.
-It works on a copy in a temporary folder, which takes target/ along so that a check costs seconds.
+Of a generated table only some lines are taken. It works on a copy in a temporary folder, which takes target/ along so that a check costs seconds.
 
 A bug is refused by a promise if the first complaint is about the code, refused by a proof file if it is about the
 hand-written part of a proof, not compiled if it never reached the prover. One that is still proved has survived:
@@ -50,11 +50,13 @@ def places(src):
     for path in sorted(src.rglob("*.rt")):
         if path.name == "tests.rt":
             continue
+        sparse = 500 if path.name == "tables.rt" else 1
         for number, line in enumerate(path.read_text().split("\n")):
             if NOT_CODE.match(line) or SIGNATURE.match(line):
                 continue
-            for name, new in bugs_of(line):
-                yield path.relative_to(src), number, name, new
+            if number % sparse == 0:
+                for name, new in bugs_of(line):
+                    yield path.relative_to(src), number, name, new
 
 
 def verdict(root, crate):
