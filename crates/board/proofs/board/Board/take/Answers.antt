@@ -1,10 +1,6 @@
 use borrow.Author.Needs.{needs}
-use mathlib.Core.Path.{_∙_, sym, ap}
-use Rattle.std.specs.declared.result.Result.{Result}
-use Rattle.rules.specs.declared.state.Run.{Run}
-use Rattle.refusal.specs.declared.Refusal.{Refusal}
+use Rattle.std.specs.declared.result.Result.the-variants.{Ok}
 use Rattle.rules.specs.Calls.Call.{takes}
-use Rattle.rules.specs.Host.{take-answer, take-after, take-out}
 use Rattle.rules.proofs.Fronts.{took-is}
 use Rattle.rules.proofs.Joined.{keeps, reads-back}
 use Rattle.board.specs.Shown.{shown}
@@ -27,15 +23,12 @@ pub returns : need.returns
 returns g c =
     let b = shown (g .M·Memory .bytes) (c .args .self .now) in
     let out = c .args .out .now in
-    let j = c .in-Continue-frame .ensures tt in
-    let answer = c .hand-over .ensures .answer ∙ ap (take-answer b) j in
-    let copied = c .hand-over .ensures .copied ∙ ap (λ (q : Result Run Refusal). take-out b q out) j in
-    let after = c .hand-over .ensures .after ∙ ap (take-after b) j in
+    let left = c .hand-over .last .out in
     record {
-      answer = answer;
-      after = after;
-      copied = copied;
+      answer = search needs;
+      after = search needs;
+      copied = search needs;
       same = search needs;
-      keeps = keeps _ (takes _) _ _ _ after (took-is b out _ _ answer copied);
-      reads-back = reads-back _ b out _ _ answer copied;
+      keeps = keeps _ (takes _) _ _ _ (search needs) (took-is b out left (Ok (c .hand-over .result)) (search needs) (search needs));
+      reads-back = reads-back _ b out left (Ok (c .hand-over .result)) (search needs) (search needs);
     }
