@@ -12,9 +12,9 @@ use Rattle.refusal.specs.declared.Refusal.the-variants.{UnderWay, Outside}
 use Rattle.rules.specs.Views.{Shown, view, with-view, idle, on}
 use Rattle.rules.specs.Host.{poke-after}
 
-pub poke-writes : (b : Shown) (a v : ℕ) → idle (b .view .state .phase) ≡ true →
+write-is-poke : (b : Shown) (a v : ℕ) → idle (b .view .state .phase) ≡ true →
     with-view b (view (set (b .view .memory) a v) (b .view .state)) ≡ poke-after b a v
-poke-writes b a v h =
+write-is-poke b a v h =
     let m = b .view .memory in
     let y = view (set m a v) (b .view .state) in
     let to : (k : Bool) → ltb a (length m) ≡ k → on {X = Unit {0}} (cond true (cond k (Ok tt) (Err (Outside a))) (Err UnderWay)) b y ≡ poke-after b a v =
@@ -23,3 +23,7 @@ poke-writes b a v h =
     (λ l. to true (lt-ltb a (length m) l))
     (λ l. ap (λ z. with-view b (view z (b .view .state))) (set-past m a v l) ∙ to false (le-ltb a (length m) l))
     (cases-lt a (length m))
+
+pub poke-writes : (b y : Shown) (a v : ℕ) → idle (b .view .state .phase) ≡ true →
+    y ≡ with-view b (view (set (b .view .memory) a v) (b .view .state)) → y ≡ poke-after b a v
+poke-writes b y a v h e = e ∙ write-is-poke b a v h

@@ -1,6 +1,8 @@
 ghost use mathlib.Core.Path.{_≡_};
 ghost use mathlib.Core.List.{List};
-ghost use lib.ListN.{length};
+ghost use lib.ListN.{length, set};
+ghost use Rattle.memory.specs.Memory.{write-answer as write-answer-at};
+ghost use Rattle.rules.specs.Views.{view, with-view};
 ghost use Rattle.layout.specs.Layouts.{shape};
 ghost use Rattle.rules.specs.declared.state.Event.the-variants.{Byte, End, Abort};
 ghost use Rattle.rules.specs.Arrivals.{begin-answer, begin-after, event-answer, event-after};
@@ -331,6 +333,15 @@ impl<M: Memory, R: Recogniser> Board<M, R> {
         self.read(at)
     }
 
+    // Replaces the byte at an address.
+    fn write(&mut self, at: Address, value: u8) -> Result<(), Refusal>
+        ensures answer { λ r. ⌜ r ≡ write-answer-at (M·Memory .bytes (now (self .entry) .memory)) at ⌝ }
+        ensures after { λ _. ⌜ shown (M·Memory .bytes) (now (self .exit)) ≡ with-view (shown (M·Memory .bytes) (now (self .entry))) (view (set (M·Memory .bytes (now (self .entry) .memory)) (at .0) value) (now (self .entry) .state)) ⌝ }
+        ensures same { λ _. ⌜ now (self .exit) .recogniser ≡ now (self .entry) .recogniser ⌝ }
+    {
+        self.memory.write(at, value)
+    }
+
     /// Replaces the byte at an address of board memory, while no arrival is under way.
     pub fn poke(&mut self, at: Address, value: u8) -> Result<(), Refusal>
         ensures answer { λ r. ⌜ r ≡ poke-answer (shown (M·Memory .bytes) (now (self .entry))) (at .0) ⌝ }
@@ -340,7 +351,7 @@ impl<M: Memory, R: Recogniser> Board<M, R> {
         if !arrival::idle(&self.state.phase) {
             return Err(Refusal::UnderWay);
         }
-        self.memory.write(at, value)
+        self.write(at, value)
     }
 
     // Reads the register at an address of a page.

@@ -1,8 +1,4 @@
 use borrow.Author.Needs.{needs}
-use mathlib.Core.Path.{_∙_, ap}
-use mathlib.Core.List.{List}
-use Prim.Native.Nat.{ℕ}
-use Rattle.rules.specs.Views.{view, with-view}
 use Rattle.board.specs.Shown.{shown}
 use Rattle.board.proofs.Pokes.{poke-writes}
 use Rattle.board.proofs.board.Board.poke.Needs as need
@@ -12,6 +8,6 @@ returns g c =
     let b = shown (g .M·Memory .bytes) (c .args .self .now) in
     record {
       answer = search needs;
-      after = ap (λ (m : List ℕ). with-view b (view m (b .view .state))) (c .write .ensures .after) ∙ poke-writes b (c .args .at .0) (c .args .value) (search needs);
+      after = poke-writes b _ (c .args .at .0) (c .args .value) (search needs) (c .write .ensures .after);
       same = search needs;
     }
