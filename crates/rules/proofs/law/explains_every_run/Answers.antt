@@ -1,5 +1,6 @@
+use mathlib.Core.Path.{refl}
 use Rattle.rules.proofs.Joined.{law}
 use Rattle.rules.proofs.law.explains_every_run.Needs as need
 
 pub returns : need.returns
-returns c = law
+returns c = record { answer = refl; holds = law }
