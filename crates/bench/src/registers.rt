@@ -10,83 +10,40 @@ use refusal::Refusal;
 use select::Hold;
 use select::Select;
 
-/// A register by its name, its page and its address on that page.
+/// A register: its name, its page, and its address on that page.
 #[derive(Clone, Copy)]
-pub(crate) struct Register {
-    name: &'static str,
-    page: u8,
-    at: u8,
-}
+pub(crate) struct Register(&'static str, u8, u8);
 
-pub(crate) const INTSTAT: Register = Register {
-    name: "INTSTAT",
-    page: 0,
-    at: 0x17,
-};
+pub(crate) const INTSTAT: Register = Register("INTSTAT", 0, 0x17);
 
-const RSTAT: Register = Register {
-    name: "RSTAT",
-    page: 0,
-    at: 0x1C,
-};
+const RSTAT: Register = Register("RSTAT", 0, 0x1C);
 
-pub(crate) const ALICNT: Register = Register {
-    name: "ALICNT",
-    page: 0,
-    at: 0x1D,
-};
+pub(crate) const ALICNT: Register = Register("ALICNT", 0, 0x1D);
 
-pub(crate) const CRCCNT: Register = Register {
-    name: "CRCCNT",
-    page: 0,
-    at: 0x1E,
-};
+pub(crate) const CRCCNT: Register = Register("CRCCNT", 0, 0x1E);
 
-pub(crate) const MPCNT: Register = Register {
-    name: "MPCNT",
-    page: 0,
-    at: 0x1F,
-};
+pub(crate) const MPCNT: Register = Register("MPCNT", 0, 0x1F);
 
-pub(crate) const RBEGIN: Register = Register {
-    name: "RBEGIN",
-    page: 2,
-    at: 0x11,
-};
+pub(crate) const RBEGIN: Register = Register("RBEGIN", 2, 0x11);
 
-pub(crate) const REND: Register = Register {
-    name: "REND",
-    page: 2,
-    at: 0x12,
-};
+pub(crate) const REND: Register = Register("REND", 2, 0x12);
 
-pub(crate) const RCON: Register = Register {
-    name: "RCON",
-    page: 2,
-    at: 0x1C,
-};
+pub(crate) const RCON: Register = Register("RCON", 2, 0x1C);
 
 /// INTMASK as it is read.
-pub(crate) const INTMASK: Register = Register {
-    name: "INTMASK",
-    page: 2,
-    at: 0x1F,
-};
+pub(crate) const INTMASK: Register = Register("INTMASK", 2, 0x1F);
 
 /// INTMASK as it is written.
-pub(crate) const INTMASK_WRITE: Register = Register {
-    name: "INTMASK",
-    page: 0,
-    at: 0x1F,
-};
+pub(crate) const INTMASK_WRITE: Register = Register("INTMASK", 0, 0x1F);
 
 fn value<M: Memory, R: Recogniser>(
     board: &mut Board<M, R>,
     select: &mut Select,
     register: Register,
 ) -> Result<u8, Refusal> {
-    let hold = Hold::new(select, register.page);
-    board.read_register(&hold, register.at)
+    let Register(_, page, at) = register;
+    let hold = Hold::new(select, page);
+    board.read_register(&hold, at)
 }
 
 /// Prints the two registers that tell of the latest arrival.
@@ -107,8 +64,9 @@ pub(crate) fn read<M: Memory, R: Recogniser>(
     select: &mut Select,
     register: Register,
 ) -> Result<(), Stop> {
+    let Register(name, _, _) = register;
     let value = value(board, select, register)?;
-    println!(rt, "read {:<15} -> 0: {value:02X}h", register.name)?;
+    println!(rt, "read {name:<15} -> 0: {value:02X}h")?;
     Ok(())
 }
 
@@ -119,8 +77,9 @@ pub(crate) fn write<M: Memory, R: Recogniser>(
     register: Register,
     value: u8,
 ) -> Result<(), Stop> {
-    let hold = Hold::new(select, register.page);
-    board.write_register(&hold, register.at, value)?;
-    println!(rt, "write {:<10} {value:02X}h -> 0", register.name)?;
+    let Register(name, page, at) = register;
+    let hold = Hold::new(select, page);
+    board.write_register(&hold, at, value)?;
+    println!(rt, "write {name:<10} {value:02X}h -> 0")?;
     Ok(())
 }

@@ -1,3 +1,4 @@
+use self::Call::*;
 use layout::layout::Layout;
 use memory::address::Address;
 use memory::address::Page;
@@ -19,57 +20,57 @@ enum Call {
 // Each call with the number that it answers, and how many buffers the layout has then.
 const STEPS: &[(Call, u8, usize)] = &[
     // a blank layout has no page
-    (Call::Add(256, 4), 3, 0),
-    (Call::Add(0, 0), 3, 0),
+    (Add(256, 4), 3, 0),
+    (Add(0, 0), 3, 0),
     // sizes
-    (Call::Table(256, 0, 1), 1, 0),
-    (Call::Table(511, 0, 1), 1, 0),
-    (Call::Table(896, 0, 1), 1, 0),
-    (Call::Table(65792, 0, 1), 1, 0),
-    (Call::Table(0, 1, 1), 1, 0),
+    (Table(256, 0, 1), 1, 0),
+    (Table(511, 0, 1), 1, 0),
+    (Table(896, 0, 1), 1, 0),
+    (Table(65792, 0, 1), 1, 0),
+    (Table(0, 1, 1), 1, 0),
     // tables
-    (Call::Table(512, 1, 1), 2, 0),
-    (Call::Table(512, 2, 1), 2, 0),
-    (Call::Table(1024, 0, 3), 2, 0),
-    (Call::Table(512, 1, 3), 2, 0),
-    (Call::Add(256, 4), 3, 0),
-    (Call::Table(65536, 253, 255), 0, 0),
-    (Call::Table(512, 0, 1), 0, 0),
+    (Table(512, 1, 1), 2, 0),
+    (Table(512, 2, 1), 2, 0),
+    (Table(1024, 0, 3), 2, 0),
+    (Table(512, 1, 3), 2, 0),
+    (Add(256, 4), 3, 0),
+    (Table(65536, 253, 255), 0, 0),
+    (Table(512, 0, 1), 0, 0),
     // buffers
-    (Call::Add(256, 4), 0, 1),
-    (Call::Add(260, 4), 0, 2),
-    (Call::Add(264, 4), 0, 3),
-    (Call::Add(300, 0), 4, 3),
-    (Call::Add(0, 0), 4, 3),
-    (Call::Add(511, 2), 4, 3),
-    (Call::Add(512, 1), 4, 3),
-    (Call::Add(0xFFFF_FFFF, 0xFFFF), 4, 3),
-    (Call::Add(259, 2), 5, 3),
-    (Call::Add(255, 2), 5, 3),
-    (Call::Add(0, 1), 5, 3),
-    (Call::Add(256, 12), 5, 3),
-    (Call::Add(510, 2), 0, 4),
+    (Add(256, 4), 0, 1),
+    (Add(260, 4), 0, 2),
+    (Add(264, 4), 0, 3),
+    (Add(300, 0), 4, 3),
+    (Add(0, 0), 4, 3),
+    (Add(511, 2), 4, 3),
+    (Add(512, 1), 4, 3),
+    (Add(0xFFFF_FFFF, 0xFFFF), 4, 3),
+    (Add(259, 2), 5, 3),
+    (Add(255, 2), 5, 3),
+    (Add(0, 1), 5, 3),
+    (Add(256, 12), 5, 3),
+    (Add(510, 2), 0, 4),
     // a refused table keeps the buffers, and an accepted one drops them
-    (Call::Table(500, 0, 1), 1, 4),
-    (Call::Table(512, 1, 1), 2, 4),
-    (Call::Add(267, 1), 5, 4),
-    (Call::Table(1024, 0, 2), 0, 0),
-    (Call::Add(511, 1), 5, 0),
-    (Call::Add(512, 1), 0, 1),
+    (Table(500, 0, 1), 1, 4),
+    (Table(512, 1, 1), 2, 4),
+    (Add(267, 1), 5, 4),
+    (Table(1024, 0, 2), 0, 0),
+    (Add(511, 1), 5, 0),
+    (Add(512, 1), 0, 1),
     // 32 buffers for each page of the table
-    (Call::AddEach(513, 63), 0, 64),
-    (Call::Add(600, 1), 3, 64),
-    (Call::Table(512, 0, 1), 0, 0),
-    (Call::AddEach(256, 32), 0, 32),
-    (Call::Add(300, 1), 3, 32),
-    (Call::Add(0, 0), 3, 32),
+    (AddEach(513, 63), 0, 64),
+    (Add(600, 1), 3, 64),
+    (Table(512, 0, 1), 0, 0),
+    (AddEach(256, 32), 0, 32),
+    (Add(300, 1), 3, 32),
+    (Add(0, 0), 3, 32),
 ];
 
 fn play(layout: &mut Layout, call: Call) -> Result<(), Refusal> {
     match call {
-        Call::Table(size, rbegin, rend) => layout.table(size, Page(rbegin), Page(rend)),
-        Call::Add(start, length) => layout.add(Address(start), length),
-        Call::AddEach(first, count) => {
+        Table(size, rbegin, rend) => layout.table(size, Page(rbegin), Page(rend)),
+        Add(start, length) => layout.add(Address(start), length),
+        AddEach(first, count) => {
             for i in 0..count {
                 layout.add(Address(first as u32 + i as u32), 1)?;
             }

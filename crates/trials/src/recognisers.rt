@@ -1,8 +1,10 @@
 use crate::trial::Answer;
+use crate::trial::Answer::*;
 use crate::trial::Call;
+use crate::trial::Call::*;
 use crate::trial::MPCNT;
 use crate::trial::OVERRUN;
-use crate::trial::Plan;
+use crate::trial::Plan::*;
 use crate::trial::RSTAT;
 use crate::trial::WHOLE;
 use crate::trial::on_both;
@@ -76,29 +78,16 @@ fn station_members() -> Result<(), Fail> {
 
 // A frame of six bytes that goes by the group table, and matches.
 const GROUP_FRAME: &[(Call, Answer)] = &[
-    (Call::Open(Plan::Three, 3), Answer::Accepted),
-    (Call::Begin, Answer::Accepted),
-    (Call::Bytes(0xFF, 2), Answer::Accepted),
-    (Call::Bytes(0x00, 2), Answer::Accepted),
-    (Call::Bytes(0xFF, 2), Answer::Accepted),
-    (Call::Line(WHOLE), Answer::Accepted),
-    (Call::Take(12), Answer::Frame(0, 2, 6, 0x21)),
+    (Open(Three, 3), Accepted),
+    (Begin, Accepted),
+    (Bytes(0xFF, 2), Accepted),
+    (Bytes(0x00, 2), Accepted),
+    (Bytes(0xFF, 2), Accepted),
+    (Line(WHOLE), Accepted),
+    (Take(12), Frame(0, 2, 6, 0x21)),
     (
-        Call::Buffer,
-        Answer::Holds([
-            0xFF,
-            0xFF,
-            0x00,
-            0x00,
-            0xFF,
-            0xFF,
-            0xAA,
-            0xAA,
-            0xAA,
-            0xAA,
-            0xAA,
-            0xAA,
-        ]),
+        Buffer,
+        Holds([0xFF, 0xFF, 0x00, 0x00, 0xFF, 0xFF, 7, 7, 7, 7, 7, 7]),
     ),
 ];
 
@@ -114,9 +103,10 @@ fn group_frame() -> Result<(), Fail> {
     )
 }
 
-// A sheet of two entries, filled by two addresses.
-fn admits(entries: &mut [[u8; 6]; 2]) -> Result<(), Fail> {
-    let mut sheet = Sheet::new(entries);
+#[test]
+fn sheet_members() -> Result<(), Fail> {
+    let mut entries = [OTHER; 2];
+    let mut sheet = Sheet::new(&mut entries);
     check(!sheet.accepts(&OTHER))?;
     check_eq(code(sheet.admit(OWN)), 0)?;
     check_eq(code(sheet.admit(OWN)), 19)?;
@@ -130,33 +120,30 @@ fn admits(entries: &mut [[u8; 6]; 2]) -> Result<(), Fail> {
     check(!sheet.accepts(&OTHER))
 }
 
-#[test]
-fn sheet_members() -> Result<(), Fail> {
-    admits(&mut [OTHER; 2])
-}
-
 // The sheet has six bytes of 02h: they are recognised, and six bytes of 04h are not.
 const SHEET_FRAMES: &[(Call, Answer)] = &[
-    (Call::Open(Plan::Three, 3), Answer::Accepted),
-    (Call::Begin, Answer::Accepted),
-    (Call::Bytes(0x04, 6), Answer::Accepted),
-    (Call::Line(OVERRUN), Answer::Accepted),
-    (RSTAT, Answer::Value(0x00)),
-    (Call::Begin, Answer::Accepted),
-    (Call::Bytes(0x02, 6), Answer::Accepted),
-    (Call::Line(OVERRUN), Answer::Accepted),
-    (RSTAT, Answer::Value(0x08)),
-    (MPCNT, Answer::Value(1)),
+    (Open(Three, 3), Accepted),
+    (Begin, Accepted),
+    (Bytes(0x04, 6), Accepted),
+    (Line(OVERRUN), Accepted),
+    (RSTAT, Value(0x00)),
+    (Begin, Accepted),
+    (Bytes(0x02, 6), Accepted),
+    (Line(OVERRUN), Accepted),
+    (RSTAT, Value(0x08)),
+    (MPCNT, Value(1)),
 ];
 
 #[test]
 fn sheet_frames() -> Result<(), Fail> {
-    let mut entries = [[0; 6]; 1];
+    let mut entries = [[0; 6]; 2];
     let mut sheet = Sheet::new(&mut entries);
     sheet.admit([0x02; 6])?;
     on_bytes(sheet, SHEET_FRAMES)?;
-    let mut entries = [[0; 6]; 1];
+    check_eq(entries, [[0x02; 6], [0; 6]])?;
+    let mut entries = [[0; 6]; 2];
     let mut sheet = Sheet::new(&mut entries);
     sheet.admit([0x02; 6])?;
-    on_words(sheet, SHEET_FRAMES)
+    on_words(sheet, SHEET_FRAMES)?;
+    check_eq(entries, [[0x02; 6], [0; 6]])
 }

@@ -81,7 +81,7 @@ pub(crate) enum Call {
     Selected,
     /// The bytes of a descriptor of the table on page 0. In the first, bit 0 is HELD, bit 1 FIRST, bit 2 LAST and bit 3 TAKEN.
     Descriptor(u8),
-    /// The caller's buffer.
+    /// The caller's buffer, all 7 at first.
     Buffer,
 }
 
@@ -215,7 +215,7 @@ fn trial<M: Memory, R: Recogniser>(
     steps: &[(Call, Answer)],
 ) -> Result<(), Fail> {
     let mut select = Select::new();
-    let mut buffer = [0xAA; 12];
+    let mut buffer = [7; 12];
     for (i, (call, expected)) in steps.iter().enumerate() {
         let played = play(board, &mut select, &mut buffer, *call);
         check_eq(outcome(played), *expected).note(format_args!("step {i}"))?;
