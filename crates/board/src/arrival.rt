@@ -1,7 +1,11 @@
+ghost use mathlib.Core.Bool.{cond};
 ghost use mathlib.Core.Path.{_≡_};
+ghost use Prim.Native.Nat.{_+_};
+ghost use lib.Dec.{ltb};
+ghost use lib.ListN.{set};
 ghost use Rattle.rules.specs.Bits.{OVW as OVW-bit};
 ghost use Rattle.rules.specs.Views.{view, idle as is-idle};
-ghost use Rattle.rules.specs.Arrivals.{began, count-up, noted, counted, missed, wanted as wanted-next, store as stored, store-fresh as stored-fresh, store-in as stored-in, store-all as all-stored, recognised-state, address-byte as address-byte-added, matched as matched-registers, mismatched, kept, is-runt, finished, overrun as overrun-state, handled, arrives};
+ghost use Rattle.rules.specs.Arrivals.{began, count-up, noted, counted, missed, wanted as wanted-next, further, store-fresh as stored-fresh, store-in as stored-in, store-all as all-stored, recognised-state, address-in, matched as matched-registers, mismatched, kept, is-runt, finished, overrun as overrun-state, handled, arrives};
 use crate::descriptor::descriptor;
 use crate::descriptor::held;
 use crate::descriptor::keep_run;
@@ -130,22 +134,19 @@ fn store_fresh<M: Memory>(m: &mut M, g: &Setup, s: &mut State, t: Stored, value:
     }
 }
 
-// Stores a byte at the next unused place of the latest buffer.
-fn store<M: Memory>(m: &mut M, g: &Setup, s: &mut State, t: Stored, value: u8)
-    ensures { λ _. ⌜ view (M·Memory .bytes (now (m .exit))) (now (s .exit)) ≡ stored (now (g .entry)) (view (M·Memory .bytes (now (m .entry))) (now (s .entry))) t value ⌝ }
+// Stores a byte at the next unused place of the latest buffer, and answers whether there was one.
+fn store_further<M: Memory>(m: &mut M, t: &mut Stored, value: u8) -> bool
+    ensures answer { λ r. ⌜ r ≡ ltb (now (t .entry) .filled) (now (t .entry) .length) ⌝ }
+    ensures after { λ r. ⌜ now (t .exit) ≡ cond r (further (now (t .entry))) (now (t .entry)) ⌝ }
+    ensures memory { λ r. ⌜ M·Memory .bytes (now (m .exit)) ≡ cond r (set (M·Memory .bytes (now (m .entry))) (now (t .entry) .start + now (t .entry) .filled) value) (M·Memory .bytes (now (m .entry))) ⌝ }
 {
     if t.filled < t.length {
         put(m, Address(t.start as u32 + t.filled as u32), value);
-        s.phase = Phase::Storing(Stored {
-            used: t.used,
-            latest: t.latest,
-            start: t.start,
-            length: t.length,
-            filled: t.filled + 1,
-            total: up(t.total),
-        });
+        t.filled += 1;
+        t.total = up(t.total);
+        true
     } else {
-        store_fresh(m, g, s, t, value);
+        false
     }
 }
 
@@ -153,8 +154,11 @@ fn store<M: Memory>(m: &mut M, g: &Setup, s: &mut State, t: Stored, value: u8)
 fn store_in<M: Memory>(m: &mut M, g: &Setup, s: &mut State, value: u8)
     ensures { λ _. ⌜ view (M·Memory .bytes (now (m .exit))) (now (s .exit)) ≡ stored-in (now (g .entry)) (view (M·Memory .bytes (now (m .entry))) (now (s .entry))) (now (s .entry) .phase) value ⌝ }
 {
-    if let Phase::Storing(t) = s.phase {
-        store(m, g, s, t, value);
+    if let Phase::Storing(t) = &mut s.phase {
+        if !store_further(m, t, value) {
+            let full = *t;
+            store_fresh(m, g, s, full, value);
+        }
     }
 }
 
@@ -184,18 +188,16 @@ fn recognise(s: &mut State, address: &[u8; 6])
 }
 
 // A byte of the address; at the sixth the recogniser is asked.
-fn address_byte<M: Memory, R: Recogniser>(
-    m: &mut M,
-    g: &Setup,
-    r: &R,
-    s: &mut State,
-    so_far: [u8; 6],
-    count: u8,
-    value: u8,
-)
-    ensures { λ _. ⌜ view (M·Memory .bytes (now (m .exit))) (now (s .exit)) ≡ address-byte-added (now (g .entry)) (R·Recogniser .members (now (r .entry))) (view (M·Memory .bytes (now (m .entry))) (now (s .entry))) «so_far» count value ⌝ }
+fn address_byte<M: Memory, R: Recogniser>(m: &mut M, g: &Setup, r: &R, s: &mut State, value: u8)
+    ensures { λ _. ⌜ view (M·Memory .bytes (now (m .exit))) (now (s .exit)) ≡ address-in (now (g .entry)) (R·Recogniser .members (now (r .entry))) (view (M·Memory .bytes (now (m .entry))) (now (s .entry))) (now (s .entry) .phase) value ⌝ }
 {
-    let mut bytes = so_far;
+    let Phase::Address {
+        bytes: mut bytes,
+        count,
+    } = s.phase
+    else {
+        return;
+    };
     if count < 5 {
         bytes[count as usize] = value;
         s.phase = Phase::Address {
@@ -285,18 +287,24 @@ fn overrun(s: &mut State)
 fn handle<M: Memory, R: Recogniser>(m: &mut M, g: &Setup, r: &R, s: &mut State, event: Event)
     ensures { λ _. ⌜ view (M·Memory .bytes (now (m .exit))) (now (s .exit)) ≡ handled (now (g .entry)) (R·Recogniser .members (now (r .entry))) (view (M·Memory .bytes (now (m .entry))) (now (s .entry))) (now (s .entry) .phase) event ⌝ }
 {
-    match (s.phase, event) {
-        (Phase::Address { bytes, count }, Event::Byte(value)) => address_byte(
+    match (&mut s.phase, event) {
+        (Phase::Address { bytes: _, count: _ }, Event::Byte(value)) => address_byte(
             m,
             g,
             r,
             s,
-            bytes,
-            count,
             value,
         ),
-        (Phase::Storing(t), Event::Byte(value)) => store(m, g, s, t, value),
-        (Phase::Storing(t), Event::End(last)) => finish(m, g, s, t, last),
+        (Phase::Storing(t), Event::Byte(value)) => {
+            if !store_further(m, t, value) {
+                let full = *t;
+                store_fresh(m, g, s, full, value);
+            }
+        }
+        (Phase::Storing(t), Event::End(last)) => {
+            let stored = *t;
+            finish(m, g, s, stored, last);
+        }
         (Phase::Storing(_), Event::Abort(Fault::Overrun)) => overrun(s),
         (Phase::Idle | Phase::Ignored | Phase::Missed, Event::Byte(_)) => {}
         (

@@ -7,6 +7,7 @@
 --   store-fresh                          one byte in the next buffer, or the arrival is missed
 --   store-all                            bytes in turn, while the arrival is storing
 --   recognised, sixth, address-byte      a byte of the address; the recogniser is asked at the sixth
+--   address-in                           the same, in the phase address alone
 --   matched, mismatched                  the registers after the CRC is judged
 --   kept, finished                       an arrival that is kept, and the end of a storing arrival
 --   overrun                              the abort of a storing arrival by an overrun
@@ -126,6 +127,14 @@ sixth g among x a = cond (among a) (recognised g x a) (view (x .memory) (with-ph
 abbrev pub address-byte : Setup → (List ℕ → Bool) → View → List ℕ → ℕ → ℕ → View
 address-byte g among x a n v =
     cond (ltb n 5) (view (x .memory) (with-phase (x .state) (Address (set a n v) (n + 1)))) (sixth g among x (set a 5 v))
+
+-- in the phase address alone
+abbrev pub address-in : Setup → (List ℕ → Bool) → View → Phase → ℕ → View
+address-in g among x Idle v = x
+address-in g among x (Address a n) v = address-byte g among x a n v
+address-in g among x (Storing t) v = x
+address-in g among x Ignored v = x
+address-in g among x Missed v = x
 
 -- the arrival is over, and nothing else
 abbrev pub over : View → View
