@@ -10,7 +10,7 @@ use lib.Dec.{eqb}
 use lib.ListN.{length, getD, take, drop}
 use Rattle.std.specs.declared.result.Result.{Result}
 use Rattle.std.specs.declared.result.Result.the-variants.{Ok, Err}
-use Rattle.std.proofs.shelf.Lists.{at-drop-more, at-drop-all, take-more, take-all}
+use Rattle.std.proofs.shelf.Lists.{at-drop-more, at-drop-all, take-more}
 use Rattle.std.proofs.shelf.Tests.{cond-true, cond-false, eq-eqb, ne-eqb}
 use Rattle.std.proofs.shelf.Ways.{tells}
 use Rattle.layout.specs.declared.buffer.Buffer.{Buffer}
@@ -93,9 +93,6 @@ pub store-all-step : (g : Setup) (x y y′ : View) (vs : List ℕ) (i : ℕ) →
 store-all-step g x y y′ vs i h e f =
     f ∙ ap (λ (z : View). store-in g z (z .state .phase) (getD vs i 0)) e ∙ sym (store-all-push g x (take i vs) (getD vs i 0))
     ∙ ap (store-all g x) (sym (take-more vs i 0 h))
-
-pub store-all-all : (g : Setup) (x y : View) (vs : List ℕ) (i : ℕ) → length vs ≤ i → y ≡ store-all g x (take i vs) → y ≡ store-all g x vs
-store-all-all g x y vs i h e = e ∙ ap (store-all g x) (take-all i vs h)
 
 -- the judgement of a run
 pub run-on-all : (g : Setup) (m : List ℕ) (tk : Bool) (i len d n : ℕ) (r : Result Run Break) → n ≤ i → run-on g m tk i len d (n - i) ≡ r → Err (Endless d) ≡ r

@@ -10,6 +10,7 @@ use lib.ListN.{length, getD, take, set}
 use Rattle.std.proofs.shelf.Lists.{length-push, take-more-set, length-set, take-all}
 use Rattle.std.proofs.shelf.Tests.{cond-false, cond-true, ne-eqb, eq-eqb, lt-ltb, le-ltb, cases-bool, cases-lt}
 use Rattle.crc.specs.Crc.{crc-byte, crc-over, start}
+use Rattle.crc.proofs.Over.{crc-over-push}
 use Rattle.rules.specs.declared.state.Event.the-variants.{Byte}
 use Rattle.rules.specs.declared.state.Phase.{Phase}
 use Rattle.rules.specs.declared.state.Phase.the-variants.{Ignored, Address}
@@ -24,7 +25,7 @@ use Rattle.rules.proofs.Frames.{Gone, Kept-frame, flat}
 use Rattle.rules.proofs.Lawful.{Lawful}
 use Rattle.rules.proofs.Encoding.{Table-fits}
 use Rattle.rules.proofs.Waiting.{In-order}
-use Rattle.rules.proofs.Progress.{crc-push, Progress, recognised-push, byte-progress, missed-fills-no-more, other-bit-keeps-mpa, bytes-progress, short-unrecognised, six-recognised}
+use Rattle.rules.proofs.Progress.{Progress, recognised-push, byte-progress, missed-fills-no-more, other-bit-keeps-mpa, bytes-progress, short-unrecognised, six-recognised}
 use Rattle.rules.proofs.Invariant.{Invariant, Coming-fits, Storing-fits, Missed-fits, Ignored-fits, Address-fits}
 use Rattle.rules.proofs.Invariant.Coming-fits.{in-storing, in-missed, in-ignored, in-address}
 use Rattle.rules.proofs.LineSteps.{curr-below}
@@ -54,7 +55,7 @@ module _ (s : Plan) (L : Lawful s) (among : List ℕ → Bool) (gone : List Gone
   curr-in = curr-below s L among gone waiting lost given x (coming bs f) I
 
   crc-next : x .state .crc ≡ crc-over start bs → crc-byte (x .state .crc) v ≡ crc-over start bs′
-  crc-next q = ap (λ c. crc-byte c v) q ∙ sym (crc-push start bs v)
+  crc-next q = ap (λ c. crc-byte c v) q ∙ sym (crc-over-push start bs v)
 
   from-progress : (y : View) (f′ : Fill) → recognised among bs′ ≡ true → 6 ≤ length bs′ → crc-byte (x .state .crc) v ≡ crc-over start bs′ →
       Progress s gone waiting x₁ y f′ bs′ → Goal y f′

@@ -12,7 +12,6 @@ use lib.Dec.{eqb, leb}
 use lib.ListN.{length, take}
 use Rattle.std.proofs.shelf.Lists.{length-push, take-append-le, take-all, append-nil, append-assoc}
 use Rattle.std.proofs.shelf.Tests.{le-leb, and-left, lt-leb, cond-true}
-use Rattle.crc.specs.Crc.{crc-over, crc-byte}
 use Rattle.rules.specs.declared.state.Phase.the-variants.{Storing, Missed}
 use Rattle.rules.specs.declared.state.Stored.{Stored}
 use Rattle.rules.specs.Bits.{has, MPA, with-bit}
@@ -37,11 +36,6 @@ mpa-set r = ap (λ x. eqb x 1) (ap (λ y. y % 2) (or-shr r 16 4) ∙ or-mod (r /
     go zero h = refl
     go (suc zero) h = refl
     go (suc (suc y)) h = absurd (omega arith)
-
-pub crc-push : (r : ℕ) (bs : List ℕ) (v : ℕ) → crc-over r (bs ++ (v ∷ [])) ≡ crc-byte (crc-over r bs) v
-unfolding crc-over
-crc-push r [] v = refl
-crc-push r (b ∷ bs) v = crc-push (crc-byte r b) bs v
 
 pub recognised-push : (among : List ℕ → Bool) (bs : List ℕ) (v : ℕ) → 6 ≤ length bs → recognised among (bs ++ (v ∷ [])) ≡ recognised among bs
 unfolding recognised
