@@ -4,7 +4,7 @@ use Rattle.board.proofs.descriptor.keep_run.Goals as goal
 
 pub loop-i-preserved : goal.loop-i-preserved
 loop-i-preserved g c =
-    keep_run_step _ _ _ _ _ _ _ _ _ c.loop-i.i (omega arith) c.loop-i.invariant c.keep-one.ensures c.next-d.ensures
+    keep_run_step _ _ _ _ _ _ _ _ _ c.loop-i.i (omega arith) c.loop-i.invariant c.keep_one.ensures c.next-d.ensures
 
 pub returns : goal.returns
 returns g c = keep_run_all _ _ _ _ _ _ _ _ c.loop-i.i (omega arith) c.loop-i.invariant

@@ -14,7 +14,7 @@ loop-j-init g c =
 pub loop-j-preserved : goal.loop-j-preserved
 loop-j-preserved g c =
     copy_step _ _ _ _ c.args.start c.args.at _ c.loop-j.j (omega arith) c.loop-j.invariant
-    (c.set-at.ensures ∙ ap (λ (v : ℕ). set c.loop-j.out (c.args.at + c.loop-j.j) v) c.byte-value.ensures)
+    (c.set_at.ensures ∙ ap (λ (v : ℕ). set c.loop-j.out (c.args.at + c.loop-j.j) v) c.byte-value.ensures)
 
 pub returns : goal.returns
 returns g c = copy_all _ _ _ c.args.start c.args.at _ c.loop-j.j (omega arith) c.loop-j.invariant

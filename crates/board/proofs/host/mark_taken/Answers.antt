@@ -4,12 +4,12 @@ use Rattle.board.proofs.host.mark_taken.Goals as goal
 
 pub loop-i-preserved : goal.loop-i-preserved
 loop-i-preserved g c = (
-  take_run_step _ _ _ _ _ _ _ c.loop-i.-i (omega arith) c.loop-i.invariant.0 c.take_one.ensures c.next-d.ensures,
-  onward_step _ _ _ _ _ c.loop-i.-i (omega arith) c.loop-i.invariant.1 c.next-d.ensures,
+  take_run_step _ _ _ _ _ _ _ c.loop-i._i (omega arith) c.loop-i.invariant.0 c.take_one.ensures c.next-d.ensures,
+  onward_step _ _ _ _ _ c.loop-i._i (omega arith) c.loop-i.invariant.1 c.next-d.ensures,
 )
 
 pub returns : goal.returns
 returns g c = record {
-  after = take_run_all _ _ _ _ _ c.loop-i.-i (omega arith) c.loop-i.invariant.0;
-  value = onward_all _ _ _ _ c.loop-i.-i (omega arith) c.loop-i.invariant.1;
+  after = take_run_all _ _ _ _ _ c.loop-i._i (omega arith) c.loop-i.invariant.0;
+  value = onward_all _ _ _ _ c.loop-i._i (omega arith) c.loop-i.invariant.1;
 }

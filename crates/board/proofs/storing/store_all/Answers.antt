@@ -8,7 +8,7 @@ loop-value-init g c = sym (store_all_none _ _)
 
 pub loop-value-preserved : goal.loop-value-preserved
 loop-value-preserved g c =
-    store_all_step _ _ _ _ c.args.bytes.now c.loop-value.value-index (omega arith) c.loop-value.invariant c.store-in.ensures
+    store_all_step _ _ _ _ c.args.bytes.now c.loop-value.value-index (omega arith) c.loop-value.invariant c.store_in.ensures
 
 pub returns : goal.returns
 returns g c = search (rules, take_all)

@@ -7,7 +7,7 @@ pub returns-then-start-eq0 : goal.returns-then-start-eq0
 returns-then-start-eq0 c =
     record {
       copied =
-          simp take_rest at c.copy-words.ensures.copied
+          simp take_rest at c.copy_words.ensures.copied
           ∙ from_even c.args.words.now c.args.start (length c.args.out.now) c.if-start-eq0.true;
     }
 
@@ -15,9 +15,9 @@ pub returns-then-out-gt0 : goal.returns-then-out-gt0
 returns-then-out-gt0 c =
     record {
       copied =
-          odd_copied c.args.words.now c.args.out.now c.copy-words-then-out-gt0.new.out c.args.start
+          odd_copied c.args.words.now c.args.out.now c.copy_words-then-out-gt0.new.out c.args.start
           c.if-start-eq0.false c.if-out-gt0.true (omega arith)
-          (simp take_rest at c.copy-words-then-out-gt0.ensures.copied);
+          (simp take_rest at c.copy_words-then-out-gt0.ensures.copied);
     }
 
 pub returns-else-out-gt0 : goal.returns-else-out-gt0

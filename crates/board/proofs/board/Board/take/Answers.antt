@@ -5,8 +5,8 @@ use Rattle.rules.proofs.Joined.{keeps, reads_back}
 use Rattle.board.specs.Shown.{shown}
 use Rattle.board.proofs.board.Board.take.Goals as goal
 
-pub returns-in-err-frame : goal.returns-in-err-frame
-returns-in-err-frame g c =
+pub returns-in_err-frame : goal.returns-in_err-frame
+returns-in_err-frame g c =
     let b = shown g.M.Memory.bytes c.args.self.now in
     let out = c.args.out.now in
     record {
@@ -22,12 +22,12 @@ pub returns : goal.returns
 returns g c =
     let b = shown g.M.Memory.bytes c.args.self.now in
     let out = c.args.out.now in
-    let left = c.hand-over.new.out in
+    let left = c.hand_over.new.out in
     record {
       answer = search rules;
       after = search rules;
       copied = search rules;
       same = search rules;
-      keeps = keeps _ (takes _) _ _ _ (search rules) (took_is b out left (Ok c.hand-over.result) (search rules) (search rules));
-      reads_back = reads_back _ b out left (Ok c.hand-over.result) (search rules) (search rules);
+      keeps = keeps _ (takes _) _ _ _ (search rules) (took_is b out left (Ok c.hand_over.result) (search rules) (search rules));
+      reads_back = reads_back _ b out left (Ok c.hand_over.result) (search rules) (search rules);
     }
