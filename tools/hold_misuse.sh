@@ -11,17 +11,18 @@ failed=0
 # Checks a copy of the crate with a function appended whose body is $1.
 # Writes what the check says to $work/said, and ends as the check does.
 check_with() {
-    rm -rf "$work/select"
-    mkdir "$work/select"
-    cp -r "$crate/src" "$crate/specs" "$crate/proofs" "$work/select"
+    rm -rf "$work/crates"
+    mkdir -p "$work/crates/select"
+    echo 'select:' > "$work/crates.txt"
+    cp -r "$crate/src" "$crate/specs" "$crate/proofs" "$work/crates/select"
     {
         echo
         echo 'fn appended() -> u8 {'
         echo '    let mut select = Select::new();'
         echo "    $1"
         echo '}'
-    } >> "$work/select/src/lib.rt"
-    rt check "$work/select" > "$work/said" 2>&1
+    } >> "$work/crates/select/src/lib.rt"
+    (cd "$work/crates/select" && rt check) > "$work/said" 2>&1
 }
 
 report() {

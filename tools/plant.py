@@ -5,8 +5,8 @@
 
 Run it from the repository's root. Each bug is an edit of one place in crates/CRATE/src, or in one file of it, never in a
 contract, a definition or a proof: another comparison, `&&` for `||`, a test turned round, another constant, a statement
-left out. Of a generated table only some lines are taken. It works on a copy in a temporary folder, which takes target/
-along so that a check costs seconds.
+left out. Of a generated table only some lines are taken. It works on a copy in a temporary folder, which takes the
+crates' out/ along so that a check costs seconds.
 
 A bug is refused by a promise if the first complaint is about the code, refused by a proof file if it is about the
 hand-written part of a proof, not compiled if it never reached the prover. One that is still proved has survived:
@@ -61,14 +61,14 @@ def places(src):
 
 
 def verdict(root, crate):
-    said = subprocess.run(["rt", "dev", crate], cwd=root, capture_output=True, text=True, timeout=900)
+    said = subprocess.run(["rt", "check"], cwd=root / "crates" / crate, capture_output=True, text=True, timeout=900)
     text = said.stdout + said.stderr
     last = [line for line in text.split("\n") if line.startswith("logic=")]
     if last and last[-1].startswith("logic=proved") and f"crate {crate}:" in text:
         return "SURVIVED"
     if not last or not last[-1].startswith("logic=not-proved"):
         return "not compiled"
-    first = re.search(rf"crates/{crate}/(src|proofs)/", text)
+    first = re.search(r"(?m)^(?:so far: |note: )?(?:\./)?(src|proofs)/", text)
     return "refused by a proof file" if first and first.group(1) == "proofs" else "refused by a promise"
 
 

@@ -1,4 +1,5 @@
 //! A bench session from begin to end: frames come from the line, and the host takes and releases them.
+#![tactic(auto)]
 
 mod host;
 mod line;

@@ -1,4 +1,4 @@
-ghost use Rattle.std.specs.Prelude.{◌≡◌, List, length, set, Ok, slice_set};
+ghost use Rattle.std.specs.Prelude.{◌≡◌, length, Ok, slice_set};
 ghost use Rattle.memory.specs.Memory.{write_answer as write_answer_at};
 ghost use Rattle.rules.specs.Views.{view, with_view, on};
 ghost use Rattle.layout.specs.Layouts.{shape};

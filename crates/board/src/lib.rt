@@ -1,3 +1,5 @@
+#![tactic(auto)]
+
 mod arrival;
 pub mod board;
 mod counters;

@@ -1,4 +1,5 @@
 //! The 32-bit CRC register of IEEE 802.3, as the receiver keeps it.
+#![tactic(auto)]
 
 ghost use Rattle.std.specs.Prelude.{◌≡◌, ◌==◌};
 ghost use Rattle.crc.specs.Crc.{crc_byte, crc_over, start, residue};

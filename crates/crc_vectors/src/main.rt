@@ -1,4 +1,6 @@
 //! CRC vectors published elsewhere, through the proved register and through a second implementation.
+#![tactic(auto)]
+
 use anyhow::anyhow;
 
 mod aal5;

@@ -1,4 +1,5 @@
 //! The bench examples as runs of the board, on a memory of bytes and on one of words.
+#![tactic(auto)]
 
 mod play;
 mod step;

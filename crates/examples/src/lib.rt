@@ -1,3 +1,5 @@
+#![tactic(auto)]
+
 ghost use Rattle.std.specs.Prelude.{◌≡◌};
 ghost use Rattle.examples.specs.Examples.{ExamplesHold};
 ghost use Rattle.examples.specs.Witness.{HasRuns};

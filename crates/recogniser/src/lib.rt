@@ -1,4 +1,5 @@
 //! Recognisers: each means a set of six-byte addresses.
+#![tactic(auto)]
 
 ghost use Rattle.std.specs.Prelude.{◌≡◌, ℕ, Bool, List};
 

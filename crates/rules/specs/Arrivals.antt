@@ -13,8 +13,8 @@
 --   overrun                              the abort of a storing arrival by an overrun
 --   handled                              what an event does in the phase that it finds
 --   begin_answer, event_answer           what begin, and what byte, end and abort answer
---   begin_after .. abort-after           what each call leaves
-use Rattle.std.specs.Prelude.{ℕ, ◌+◌, min, Bool, true, false, cond, not, ◌&&◌, List, [], ◌∷◌, Ok, Err, Result, ◌==◌, nat_le, nat_lt, slice_index, slice_set}
+--   begin_after, event_after             what begin leaves, and what byte, end and abort leave
+use Rattle.std.specs.Prelude.{ℕ, ◌+◌, min, Bool, true, cond, not, ◌&&◌, List, [], ◌∷◌, Ok, Err, Result, ◌==◌, nat_le, nat_lt, slice_index, slice_set}
 use Rattle.refusal.specs.declared.Refusal.{Refusal}
 use Rattle.refusal.specs.declared.Refusal.TheVariants.{Shut, UnderWay, NoArrival}
 use Rattle.crc.specs.Crc.{crc_byte, start, residue}
@@ -27,7 +27,6 @@ use Rattle.rules.specs.declared.state.Phase.{Phase}
 use Rattle.rules.specs.declared.state.Phase.TheVariants.{Idle, Address, Storing, Ignored, Missed}
 use Rattle.rules.specs.declared.state.LastByte.{LastByte}
 use Rattle.rules.specs.declared.state.LastByte.TheVariants.{Whole, Ragged}
-use Rattle.rules.specs.declared.state.Fault.{Fault}
 use Rattle.rules.specs.declared.state.Fault.TheVariants.{Collision, Overrun}
 use Rattle.rules.specs.declared.state.Event.{Event}
 use Rattle.rules.specs.declared.state.Event.TheVariants.{Byte, End, Abort}

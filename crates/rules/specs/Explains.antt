@@ -22,7 +22,7 @@ use Rattle.rules.specs.Plan.{Plan, summary, buffer, times, row}
 use Rattle.rules.specs.Calls.{Call, Outcome, Receipt}
 use Rattle.rules.specs.Calls.Call.{begins, byte_comes, ends, aborts, takes, releases, looks}
 use Rattle.rules.specs.Calls.Outcome.{refused, done, took}
-use Rattle.rules.specs.Ledger.{Ledger, Frame, Fill, Arrival, after_taken, recognised, keeps_arrival, enter, under_way}
+use Rattle.rules.specs.Ledger.{Ledger, Frame, Arrival, after_taken, recognised, keeps_arrival, enter, under_way}
 use Rattle.rules.specs.Ledger.Arrival.{none, coming}
 
 pub record Sight : Type 0 where

@@ -7,7 +7,7 @@
 --   release_answer, release_after      what a release answers and leaves
 --   peek_answer                        the byte at an address
 --   poke_answer, poke_after            what a poke answers and leaves
-use Rattle.std.specs.Prelude.{ℕ, ◌+◌, Bool, true, false, cond, not, ◌&&◌, List, [], ◌∷◌, length, Ok, Err, Result, nat_le, nat_lt, slice_index, slice_set}
+use Rattle.std.specs.Prelude.{ℕ, ◌+◌, true, false, cond, not, ◌&&◌, List, [], ◌∷◌, length, Ok, Err, Result, nat_le, nat_lt, slice_index, slice_set}
 use Rattle.refusal.specs.declared.Refusal.{Refusal}
 use Rattle.refusal.specs.declared.Refusal.TheVariants.{Shut, UnderWay, NoFrame, Broken, ShortBuffer, NotTaken, Outside}
 use Rattle.rules.specs.declared.state.Run.{Run}

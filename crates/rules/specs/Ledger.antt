@@ -18,7 +18,7 @@ use Rattle.refusal.specs.Numbers.{code}
 use Rattle.crc.specs.Crc.{crc_over, start, residue}
 use Rattle.rules.specs.Bits.{has, SEP, RUNTS, shortest_frame}
 use Rattle.rules.specs.Registers.{readable, writable, found}
-use Rattle.rules.specs.Plan.{Plan, number, buffer, after, latest, times}
+use Rattle.rules.specs.Plan.{Plan, buffer, after, latest, times}
 use Rattle.rules.specs.Calls.{Call, Look}
 use Rattle.rules.specs.Calls.Call.{begins, byte_comes, ends, aborts, takes, releases, looks}
 use Rattle.rules.specs.Calls.Look.{peeks, reads, writes, asks_cause}

@@ -6,7 +6,7 @@
 --   read_answer, read_after      what a read answers and leaves; write_answer, write_after the same of a write
 --   lowest_both                  the lowest bit that is set in two bytes
 --   cause_answer                 what cause answers
-use Rattle.std.specs.Prelude.{ℕ, zero, suc, ◌+◌, ◌-◌, ◌/◌, ◌%◌, ◌^◌, true, false, cond, ◌&&◌, Some, None, Ok, Err, Option, Result, ◌==◌, bit_and}
+use Rattle.std.specs.Prelude.{ℕ, zero, suc, ◌+◌, ◌-◌, ◌%◌, cond, ◌&&◌, Some, None, Ok, Err, Option, Result, ◌==◌, bit_and}
 use Rattle.refusal.specs.declared.Refusal.{Refusal}
 use Rattle.refusal.specs.declared.Refusal.TheVariants.{Shut, NoRegister}
 use Rattle.rules.specs.declared.state.Setup.{Setup}

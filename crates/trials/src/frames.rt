@@ -2,7 +2,6 @@ use crate::trial::Answer::*;
 use crate::trial::Call::*;
 use crate::trial::Plan::*;
 use crate::trial::{Answer, BROADCAST, Call, WHOLE, on_both};
-use std::test::Fail;
 
 // A frame in descriptors 0 and 1 is taken and released.
 const TAKEN: &[(Call, Answer)] = &[
@@ -54,8 +53,8 @@ const TAKEN: &[(Call, Answer)] = &[
 ];
 
 #[test]
-fn take_and_release(rt: HostRuntime) -> Result<(), Fail> {
-    on_both(&rt, BROADCAST, TAKEN)
+fn take_and_release(rt: HostRuntime) {
+    on_both(&rt, BROADCAST, TAKEN);
 }
 
 // Descriptor 0 stands at HOST, and each poke makes it unlawful or lawful again.
@@ -98,8 +97,8 @@ const UNLAWFUL: &[(Call, Answer)] = &[
 ];
 
 #[test]
-fn unlawful_descriptors(rt: HostRuntime) -> Result<(), Fail> {
-    on_both(&rt, BROADCAST, UNLAWFUL)
+fn unlawful_descriptors(rt: HostRuntime) {
+    on_both(&rt, BROADCAST, UNLAWFUL);
 }
 
 // A frame in all three descriptors, whose run is broken by pokes.
@@ -148,6 +147,6 @@ const BROKEN: &[(Call, Answer)] = &[
 ];
 
 #[test]
-fn broken_runs(rt: HostRuntime) -> Result<(), Fail> {
-    on_both(&rt, BROADCAST, BROKEN)
+fn broken_runs(rt: HostRuntime) {
+    on_both(&rt, BROADCAST, BROKEN);
 }

@@ -1,4 +1,5 @@
 //! Trials of the board's calls. Each list of calls must answer alike on byte memory and on word memory.
+#![tactic(auto)]
 
 #[cfg(test)]
 mod arrivals;

@@ -8,7 +8,6 @@ use refusal::Refusal;
 use rules::state::{Event, Fault, LastByte};
 use select::{Hold, Select};
 use std::process::Abort;
-use std::test::Fail;
 
 pub(crate) const INTSTAT: Call = Call::Read(0, 0x17);
 
@@ -205,16 +204,16 @@ fn outcome(played: Result<Answer, Refusal>) -> Answer {
 
 fn trial<M: Memory, R: Recogniser>(
     rt: &impl Abort,
+    memory: &str,
     board: &mut Board<M, R>,
     steps: &[(Call, Answer)],
-) -> Result<(), Fail> {
+) {
     let mut select = Select::new();
     let mut buffer = [7; 12];
     for (i, (call, expected)) in steps.iter().enumerate() {
         let played = play(board, &mut select, &mut buffer, *call);
-        assert_eq!(rt; outcome(played), *expected, "step {i}");
+        assert_eq!(rt; outcome(played), *expected, "on {memory}, step {i}");
     }
-    Ok(())
 }
 
 /// Plays the calls over byte memory, from a shut board on.
@@ -222,10 +221,10 @@ pub(crate) fn on_bytes<R: Recogniser + Drop>(
     rt: &impl Abort,
     recogniser: R,
     steps: &[(Call, Answer)],
-) -> Result<(), Fail> {
+) {
     let mut cells = [0; 512];
     let mut board = Board::new(Bytes::new(&mut cells), recogniser);
-    trial(rt, &mut board, steps).note("on byte memory")
+    trial(rt, "byte memory", &mut board, steps);
 }
 
 /// Plays the calls over word memory, from a shut board on.
@@ -233,10 +232,10 @@ pub(crate) fn on_words<R: Recogniser + Drop>(
     rt: &impl Abort,
     recogniser: R,
     steps: &[(Call, Answer)],
-) -> Result<(), Fail> {
+) {
     let mut cells = [0; 256];
     let mut board = Board::new(Words::new(&mut cells), recogniser);
-    trial(rt, &mut board, steps).note("on word memory")
+    trial(rt, "word memory", &mut board, steps);
 }
 
 /// Plays the calls over both memories.
@@ -244,7 +243,7 @@ pub(crate) fn on_both<R: Recogniser + Copy>(
     rt: &impl Abort,
     recogniser: R,
     steps: &[(Call, Answer)],
-) -> Result<(), Fail> {
-    on_bytes(rt, recogniser, steps)?;
-    on_words(rt, recogniser, steps)
+) {
+    on_bytes(rt, recogniser, steps);
+    on_words(rt, recogniser, steps);
 }

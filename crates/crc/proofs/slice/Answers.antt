@@ -1,6 +1,5 @@
 use Rattle.std.proofs.Common.{take, drop}
 use Rattle.std.proofs.lemmas.List.{take-append-drop}
-use Rattle.crc.specs.Crc.{crc_over}
 use Rattle.crc.proofs.Over.{crc_over_append}
 use Rattle.crc.proofs.slice.Goals as goal
 

@@ -1,4 +1,4 @@
-use Rattle.std.proofs.Common.{sym, arith, rules}
+use Rattle.std.proofs.Common.{sym, arith}
 use Rattle.board.proofs.Causes.{lowest_both_none, lowest_both_some}
 use Rattle.board.proofs.registers.lowest.Goals as goal
 
