@@ -1,5 +1,4 @@
 ghost use Rattle.std.specs.Prelude.{◌≡◌, ℕ, Bool, List};
-ghost use Rattle.rules.specs.declared.state.Event.TheVariants.{Byte};
 ghost use Rattle.rules.specs.Views.{view, idle as is_idle};
 ghost use Rattle.rules.specs.Arrivals.{began, recognised_state, address_in, handled, arrives};
 ghost use Rattle.board.specs.Dues.{asked, carried, left_done};
@@ -82,8 +81,8 @@ fn set_aside(s: &mut State, value: u8) -> Option<Due>
     None
 }
 
-// What an event does in the phase that it finds, and what it leaves to be done.
-fn handle<M: Memory>(m: &mut M, s: &mut State, event: Event) -> Option<Due>
+// What an event does at once in the phase that it finds, and what it leaves to be done.
+fn act<M: Memory>(m: &mut M, s: &mut State, event: Event) -> Option<Due>
     ensures { (g : Setup) (among : List ℕ → Bool) → left_done g among (view (M.Memory.bytes m.new) s.new) result ≡ handled g among (view (M.Memory.bytes m.old) s.old) s.old.phase event }
 {
     match (&mut s.phase, event) {
@@ -147,27 +146,27 @@ fn carry_out<M: Memory, R: Recogniser>(m: &mut M, g: &Setup, r: &R, s: &mut Stat
     }
 }
 
-// A byte of the arrival under way. The CRC register runs over it last, as nothing else goes by the register.
-pub(crate) fn byte<M: Memory, R: Recogniser>(m: &mut M, g: &Setup, r: &R, s: &mut State, value: u8)
-    ensures { view (M.Memory.bytes m.new) s.new ≡ arrives g.now (R.Recogniser.members r.now) (view (M.Memory.bytes m.old) s.old) (Byte value) }
+// What an event does, by the phase that it finds.
+fn handle<M: Memory, R: Recogniser>(m: &mut M, g: &Setup, r: &R, s: &mut State, event: Event)
+    ensures { view (M.Memory.bytes m.new) s.new ≡ handled g.now (R.Recogniser.members r.now) (view (M.Memory.bytes m.old) s.old) s.old.phase event }
 {
-    if let Some(due) = handle(m, s, Event::Byte(value)) {
+    if let Some(due) = act(m, s, event) {
         carry_out(m, g, r, s, due);
     }
-    s.crc = crc::byte(s.crc, value);
 }
 
-// The end or the abort of the arrival under way.
-pub(crate) fn close<M: Memory, R: Recogniser>(
+// An event of the arrival under way. The CRC register runs over a byte last, as nothing else goes by the register.
+pub(crate) fn arrive<M: Memory, R: Recogniser>(
     m: &mut M,
     g: &Setup,
     r: &R,
     s: &mut State,
     event: Event,
 )
-    ensures { view (M.Memory.bytes m.new) s.new ≡ handled g.now (R.Recogniser.members r.now) (view (M.Memory.bytes m.old) s.old) s.old.phase event }
+    ensures { view (M.Memory.bytes m.new) s.new ≡ arrives g.now (R.Recogniser.members r.now) (view (M.Memory.bytes m.old) s.old) event }
 {
-    if let Some(due) = handle(m, s, event) {
-        carry_out(m, g, r, s, due);
+    handle(m, g, r, s, event);
+    if let Event::Byte(value) = event {
+        s.crc = crc::byte(s.crc, value);
     }
 }

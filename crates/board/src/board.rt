@@ -1,9 +1,9 @@
 ghost use Rattle.std.specs.Prelude.{◌≡◌, length, Ok, slice_set};
 ghost use Rattle.memory.specs.Memory.{write_answer as write_answer_at};
-ghost use Rattle.rules.specs.Views.{view, with_view, on};
+ghost use Rattle.rules.specs.Views.{view, with_view};
 ghost use Rattle.layout.specs.Layouts.{shape};
 ghost use Rattle.rules.specs.declared.state.Event.TheVariants.{Byte, End, Abort};
-ghost use Rattle.rules.specs.Arrivals.{begin_answer, begin_after, handled, event_answer, event_after};
+ghost use Rattle.rules.specs.Arrivals.{begin_answer, begin_after, event_answer, event_after};
 ghost use Rattle.rules.specs.Opening.{shut_board, opened_state, open_answer, open_after};
 ghost use Rattle.rules.specs.Registers.{read_answer, read_after, write_answer, write_after, cause_answer};
 ghost use Rattle.rules.specs.Host.{take_judged, take_answer, take_after, take_out, release_judged, release_answer, release_after, peek_answer, poke_answer, poke_after};
@@ -162,19 +162,19 @@ impl<M: Memory, R: Recogniser> Board<M, R> {
         }
     }
 
-    // A byte, where an arrival is under way.
-    fn arriving(&mut self, value: u8) -> Result<(), Refusal>
+    // An event of the arrival under way.
+    fn event(&mut self, event: Event) -> Result<(), Refusal>
         ensures answer { result ≡ event_answer (shown M.Memory.bytes self.old) }
-        ensures after { shown M.Memory.bytes self.new ≡ event_after (R.Recogniser.members self.old.recogniser) (shown M.Memory.bytes self.old) (Byte value) }
+        ensures after { shown M.Memory.bytes self.new ≡ event_after (R.Recogniser.members self.old.recogniser) (shown M.Memory.bytes self.old) event }
         ensures same { self.new.recogniser ≡ self.old.recogniser }
     {
         self.under_way()?;
-        arrival::byte(
+        arrival::arrive(
             &mut self.memory,
             &self.setup,
             &self.recogniser,
             &mut self.state,
-            value,
+            event,
         );
         Ok(())
     }
@@ -186,24 +186,7 @@ impl<M: Memory, R: Recogniser> Board<M, R> {
         ensures same { self.new.recogniser ≡ self.old.recogniser }
         ensures keeps { Keeps (R.Recogniser.members self.old.recogniser) (byte_comes value) (plainly result) (shown M.Memory.bytes self.old) (shown M.Memory.bytes self.new) }
     {
-        self.arriving(value)
-    }
-
-    // The end or the abort, where an arrival is under way.
-    fn closing(&mut self, event: Event) -> Result<(), Refusal>
-        ensures answer { result ≡ event_answer (shown M.Memory.bytes self.old) }
-        ensures after { shown M.Memory.bytes self.new ≡ on (event_answer (shown M.Memory.bytes self.old)) (shown M.Memory.bytes self.old) (handled self.old.setup (R.Recogniser.members self.old.recogniser) (view (M.Memory.bytes self.old.memory) self.old.state) self.old.state.phase event) }
-        ensures same { self.new.recogniser ≡ self.old.recogniser }
-    {
-        self.under_way()?;
-        arrival::close(
-            &mut self.memory,
-            &self.setup,
-            &self.recogniser,
-            &mut self.state,
-            event,
-        );
-        Ok(())
+        self.event(Event::Byte(value))
     }
 
     /// The arrival ends.
@@ -213,7 +196,7 @@ impl<M: Memory, R: Recogniser> Board<M, R> {
         ensures same { self.new.recogniser ≡ self.old.recogniser }
         ensures keeps { Keeps (R.Recogniser.members self.old.recogniser) (ends last) (plainly result) (shown M.Memory.bytes self.old) (shown M.Memory.bytes self.new) }
     {
-        self.closing(Event::End(last))
+        self.event(Event::End(last))
     }
 
     /// The arrival is aborted.
@@ -223,7 +206,7 @@ impl<M: Memory, R: Recogniser> Board<M, R> {
         ensures same { self.new.recogniser ≡ self.old.recogniser }
         ensures keeps { Keeps (R.Recogniser.members self.old.recogniser) (aborts fault) (plainly result) (shown M.Memory.bytes self.old) (shown M.Memory.bytes self.new) }
     {
-        self.closing(Event::Abort(fault))
+        self.event(Event::Abort(fault))
     }
 
     // The frame at HOST, for a buffer of `room` bytes.
@@ -241,7 +224,7 @@ impl<M: Memory, R: Recogniser> Board<M, R> {
         if !(held(&e) && !host::taken(&e)) {
             return Err(Refusal::NoFrame);
         }
-        match host::run(&self.memory, &self.setup, d, e, false) {
+        match host::run(&self.memory, &self.setup, d, false) {
             Ok(frame) => if frame.length as usize <= room {
                 Ok(frame)
             } else {
@@ -295,7 +278,7 @@ impl<M: Memory, R: Recogniser> Board<M, R> {
         if !(held(&e) && host::first(&e) && host::taken(&e)) {
             return Err(Refusal::NotTaken);
         }
-        match host::run(&self.memory, &self.setup, d, e, true) {
+        match host::run(&self.memory, &self.setup, d, true) {
             Ok(frame) => Ok(frame),
             Err(broken) => Err(host::refusal(broken)),
         }

@@ -1,5 +1,5 @@
 ghost use Rattle.std.specs.Prelude.{◌≡◌, ◌^◌, ◌<◌, if◌then◌else◌, slice_set};
-ghost use Rattle.rules.specs.Table.{descriptor as descriptor_of, first as is_first, last as is_last, taken as is_taken, in_place as stands_in_place, run as run_from, onward, span, frame_bytes, take_one as taken_one, take_run, clear_run};
+ghost use Rattle.rules.specs.Table.{first as is_first, last as is_last, taken as is_taken, in_place as stands_in_place, run as run_from, onward, span, frame_bytes, take_one as taken_one, take_run, clear_run};
 ghost use Rattle.rules.specs.Host.{judged, overlay};
 
 use crate::descriptor::{byte, descriptor, held, lawful, next, place, put, write};
@@ -35,21 +35,14 @@ fn in_place(taking: bool, start: bool, e: &Descriptor) -> bool
     held(e) && taken(e) == taking && first(e) == start
 }
 
-// The frame whose run of descriptors begins at one, which has been read, or what breaks it.
-pub(crate) fn run<M: Memory>(
-    m: &M,
-    g: &Setup,
-    from: u8,
-    start: Descriptor,
-    taking: bool,
-) -> Result<Run, Break>
-    requires { start ≡ descriptor_of g.now (M.Memory.bytes m.now) from }
+// The frame whose run of descriptors begins at one, or what breaks it.
+pub(crate) fn run<M: Memory>(m: &M, g: &Setup, from: u8, taking: bool) -> Result<Run, Break>
     ensures { result ≡ run_from g.now (M.Memory.bytes m.now) taking from }
 {
     let mut d = from;
-    let mut e = start;
     let mut length = 0u32;
     for i in 0..g.count {
+        let e = descriptor(m, g, d);
         if !lawful(g, &e) {
             return Err(Break::Unlawful(d));
         }
@@ -68,7 +61,6 @@ pub(crate) fn run<M: Memory>(
             return Err(Break::Endless(d));
         }
         d = next(g, d);
-        e = descriptor(m, g, d);
     }
     Err(Break::Endless(d))
 }
