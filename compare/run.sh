@@ -15,7 +15,8 @@ trap 'rm -rf "$copy"' EXIT
 crates="refusal memory crc recogniser layout select rules board"
 mkdir "$copy/crates"
 for crate in $crates; do
-    cp -r "../crates/$crate" "$copy/crates/"
+    mkdir "$copy/crates/$crate"
+    cp -r "../crates/$crate/src" "../crates/$crate/specs" "../crates/$crate/proofs" "$copy/crates/$crate/"
     grep "^$crate:" ../crates.txt >> "$copy/crates.txt"
 done
 for crate in player script; do
@@ -23,11 +24,15 @@ for crate in player script; do
         mkdir -p "$copy/crates/$(dirname "$file")"
         cp "$file" "$copy/crates/${file%.in}"
     done
-    echo "$crate: $crates" >> "$copy/crates.txt"
-    (cd "$copy" && rt staticlib "$crate" > "$copy/log" 2>&1) || { tail -20 "$copy/log"; exit 1; }
+    echo "$crate staticlib: $crates" >> "$copy/crates.txt"
+done
+mkdir "$copy/libraries"
+for crate in player script; do
+    (cd "$copy/crates/$crate" && rt lib > "$copy/log" 2>&1) || { tail -20 "$copy/log"; exit 1; }
+    cp "$copy/crates/$crate/out/lib$crate.a" "$copy/libraries/"
 done
 
-export PROVED_BOARD="$copy/target/staticlib"
+export PROVED_BOARD="$copy/libraries"
 for features in "" two-entries; do
     cargo test --offline --release --quiet --features "$features"
     cargo run --offline --release --quiet --features "$features" -- "$@"
