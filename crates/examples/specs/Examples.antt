@@ -11,7 +11,7 @@
 --   examples           all of them, in the order of the rules
 --   ExamplesHold       every one of them holds
 use Rattle.std.specs.Prelude.{ℕ, true, List, [], ◌∷◌, ◌++◌, replicate}
-use Rattle.std.specs.List.{AllByRecursion as All}
+use Rattle.std.specs.List.{AllByRecursion}
 use Rattle.recogniser.specs.declared.station.Station.{Station}
 use Rattle.layout.specs.declared.buffer.Buffer.{Buffer}
 use Rattle.layout.specs.Layouts.{Shape}
@@ -126,4 +126,4 @@ examples =
     ∷ runt_dropped ∷ every_buffer_filled ∷ one_byte_more_missed ∷ six_bytes ∷ released_once ∷ buffers_added ∷ []
 
 abbrev pub ExamplesHold : Type 0
-ExamplesHold = All Holds examples
+ExamplesHold = AllByRecursion Holds examples
