@@ -22,7 +22,8 @@ def table(name, comment, entries):
     """The source text of one table."""
     lines = [f"/// {line}" for line in comment]
     lines.append(f"pub(crate) const {name}: [u32; {len(entries)}] = [")
-    lines.extend(f"    0x{entry:08X}," for entry in entries)
+    for start in range(0, len(entries), 8):
+        lines.append("    " + " ".join(f"0x{entry:08X}," for entry in entries[start:start + 8]))
     lines.append("];")
     return "\n".join(lines)
 

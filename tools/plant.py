@@ -51,7 +51,7 @@ def places(src):
     for path in sorted(src.rglob("*.rt")):
         if path.name == "tests.rt":
             continue
-        sparse = 500 if path.name == "tables.rt" else 1
+        sparse = 40 if path.name == "tables.rt" else 1
         for number, line in enumerate(path.read_text().split("\n")):
             if NOT_CODE.match(line) or SIGNATURE.match(line):
                 continue

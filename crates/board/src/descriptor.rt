@@ -1,5 +1,5 @@
 ghost use Rattle.std.specs.Prelude.{◌≡◌, ◌+◌, ◌<◌, true, slice_index, slice_set};
-ghost use Rattle.rules.specs.Table.{word_at, place as place_of, next as next_after, descriptor as descriptor_of, held as is_held_lem, lawful as is_lawful, write as written, keep_one as kept_one, keep_run as kept_run};
+ghost use Rattle.rules.specs.Table.{word_at, place as place_of, next as next_after, descriptor as descriptor_of, held as is_held, lawful as is_lawful, write as written, keep_one as kept_one, keep_run as kept_run};
 
 use memory::address::Address;
 use memory::memory::Memory;
@@ -58,7 +58,7 @@ pub(crate) fn descriptor<M: Memory>(m: &M, g: &Setup, d: u8) -> Descriptor
 }
 
 pub(crate) fn held(e: &Descriptor) -> bool
-    ensures { result ≡ is_held_lem e.now }
+    ensures { result ≡ is_held e.now }
 {
     e.flags % 2 == 1
 }

@@ -1,4 +1,4 @@
-ghost use Rattle.std.specs.Prelude.{◌≡◌, ◌^◌, ◌<◌, if◌then◌else◌, slice_set};
+ghost use Rattle.std.specs.Prelude.{◌≡◌, ◌+◌, ◌^◌, ◌<◌, ◌&&◌, if◌then◌else◌, length, nat_le, slice_set};
 ghost use Rattle.rules.specs.Table.{first as is_first, last as is_last, taken as is_taken, in_place as stands_in_place, run as run_from, onward, span, frame_bytes, take_one as taken_one, take_run, clear_run};
 ghost use Rattle.rules.specs.Host.{judged, overlay};
 
@@ -129,7 +129,8 @@ fn copy_each<M: Memory>(m: &M, start: u16, fill: u16, out: &mut [u8], at: usize)
 // The same as a whole, where memory and buffer have all the places. Answers whether it is so; else nothing changes.
 fn copy_whole<M: Memory>(m: &M, start: u16, fill: u16, out: &mut [u8], at: usize) -> bool
     requires { at < 2 ^ 32 }
-    ensures { out.new ≡ (if result then overlay out.old at (span (M.Memory.bytes m.now) start fill) else out.old) }
+    ensures answer { result ≡ (nat_le (at + fill) (length out.old) && nat_le (start + fill) (length (M.Memory.bytes m.now))) }
+    ensures copied { out.new ≡ (if result then overlay out.old at (span (M.Memory.bytes m.now) start fill) else out.old) }
 {
     let end = at + fill as usize;
     if end > out.len() {

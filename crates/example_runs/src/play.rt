@@ -34,8 +34,8 @@ fn refused(refusal: Refusal) -> Answer {
     Answer::Refused(refusal.number(), refusal.place())
 }
 
-fn plain(res: Result<(), Refusal>) -> Answer {
-    match res {
+fn plain(outcome: Result<(), Refusal>) -> Answer {
+    match outcome {
         Ok(()) => Answer::Done,
         Err(refusal) => refused(refusal),
     }

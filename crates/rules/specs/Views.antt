@@ -1,7 +1,7 @@
 -- What a board is, by what its memory means.
 --   View        the memory's bytes, and the registers, places and arrival
 --   Shown       all of a board: whether it is shut, what its open fixed, and its view
---   with-..     a state or registers with one part replaced
+--   with_..     a state or registers with one part replaced
 --   idle        whether no arrival is under way
 --   accepted    whether a call was accepted
 --   on          what an answered call leaves: an accepted one the view given, a refused one all as it was
