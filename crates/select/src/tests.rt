@@ -22,6 +22,17 @@ fn by_end(select: &mut Select, number: u8) -> u8
     page
 }
 
+// The hold ends by the library's `drop`.
+fn by_drop(select: &mut Select, number: u8) -> u8
+    ensures answer { result ≡ number % 4 }
+    ensures same { select.new.page ≡ select.old.page }
+{
+    let hold = Hold::new(select, number);
+    let page = hold.page();
+    drop(hold);
+    page
+}
+
 // The hold ends by an early return.
 fn by_return(select: &mut Select, number: u8) -> u8
     ensures same { select.new.page ≡ select.old.page }
@@ -67,6 +78,7 @@ fn earlier_page_is_back(rt: HostRuntime) {
     select.select(6);
     assert!(rt; by_scope(&mut select, 5) == 1 && select.page() == 2);
     assert!(rt; by_end(&mut select, 5) == 1 && select.page() == 2);
+    assert!(rt; by_drop(&mut select, 5) == 1 && select.page() == 2);
     assert!(rt; by_return(&mut select, 7) == 0 && select.page() == 2);
     assert!(rt; by_question_mark(&mut select, 1) == Err(1) && select.page() == 2);
     assert!(rt; by_turns(&mut select, 3, 4) == (3, 0) && select.page() == 2);
