@@ -35,11 +35,10 @@ bits_shift (suc k) r h =
     room = omega (arith, h, once, mul-le-mul_left (r * 2) (pow_pos k))
 
 pub byte_by_tables : (r b : ℕ) → r < 2 ^ 32
-    → bit_xor (crc_byte 0 b) (bit_xor (r * 2 ^ 8 % 2 ^ 32) (crc_byte (r / 2 ^ 24 * 2 ^ 24) 0)) ≡ crc_byte r b
+    → bit_xor (bit_xor (r * 2 ^ 8 % 2 ^ 32) (crc_byte (r / 2 ^ 24 * 2 ^ 24) 0)) (crc_byte 0 b) ≡ crc_byte r b
 unfolding crc_byte
 byte_by_tables r b h =
-    xor_comm (crc_byte 0 b) (bit_xor (r * 2 ^ 8 % 2 ^ 32) (crc_byte high 0))
-    ∙ ap (λ (n : ℕ). bit_xor n (crc_byte 0 b))
+    ap (λ (n : ℕ). bit_xor n (crc_byte 0 b))
     (xor_comm (r * 2 ^ 8 % 2 ^ 32) (crc_byte high 0)
     ∙ ap (bit_xor (crc_byte high 0)) (shifted ∙ sym (bits_shift 8 low (omega arith)))
     ∙ sym (byte_xor high low 0 (omega arith) (omega arith))

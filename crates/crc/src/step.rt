@@ -1,5 +1,5 @@
-//! The steps of the register by the tables, one byte and eight bytes at a time. The data's part is named first: the
-//! compiler joins the parts in the order named, and only the register's part waits for the step before.
+//! The steps of the register by the tables, one byte and eight bytes at a time. The data's part is named first: joined
+//! in that order, only the register's part waits for the step before.
 
 ghost use Rattle.std.specs.Prelude.{◌≡◌};
 ghost use Rattle.crc.specs.Crc.{crc_bits, crc_byte, crc_over};

@@ -1,5 +1,5 @@
 use Rattle.std.proofs.Common.{ℕ, ◌*◌, ◌%◌, ◌^◌, ◌∙◌, ap₂, arith}
-use lib.Bits.{bit_xor}
+use lib.Bits.{bit_xor, xor_comm}
 use Rattle.crc.specs.Crc.{crc_byte}
 use Rattle.crc.proofs.Shift.{byte_by_tables}
 use Rattle.crc.proofs.step.one.Goals as goal
@@ -9,6 +9,7 @@ unfolding crc_byte
 returns c =
     record {
       value =
-          ap₂ (λ (x y : ℕ). bit_xor x (bit_xor (c.args.before * 2 ^ 8 % 2 ^ 32) y)) c.data.ensures.value c.top.ensures.value
+          xor_comm c.data.result (bit_xor (c.args.before * 2 ^ 8 % 2 ^ 32) c.top.result)
+          ∙ ap₂ (λ (x y : ℕ). bit_xor (bit_xor (c.args.before * 2 ^ 8 % 2 ^ 32) x) y) c.top.ensures.value c.data.ensures.value
           ∙ byte_by_tables c.args.before c.args.value (omega arith);
     }
