@@ -1,4 +1,6 @@
 mod Causes
 mod Copies
 mod Pokes
+mod ReadsOrZero
+mod Rounds
 mod Scans

@@ -1,29 +1,25 @@
 ghost use Rattle.std.specs.Prelude.{◌≡◌, ℕ, Bool, List};
 ghost use Rattle.rules.specs.Views.{view, idle as is_idle};
-ghost use Rattle.rules.specs.Arrivals.{began, recognised_state, address_in, handled, arrives};
+ghost use Rattle.rules.specs.Arrivals.{began, recognised_state, address_in, handled, arrives, begin_answer, begin_after, event_answer, event_after};
+ghost use Rattle.board.specs.Shown.{seen, shown_with};
 ghost use Rattle.board.specs.Dues.{asked, carried, left_done};
 
-use crate::ending::{finish, overrun};
-use crate::storing::{store_all, store_fresh, store_further};
+use crate::bits::{GROUP, has, set};
+use crate::chip::Chip;
+use crate::ending::overrun;
+use crate::storing::store_further;
 use memory::memory::Memory;
 use recogniser::Recogniser;
+use refusal::Refusal;
 use rules::state::{Event, Fault, LastByte, Phase, Setup, State, Stored};
-
-const GROUP: u8 = 0x20;
 
 pub(crate) fn idle(phase: &Phase) -> bool
     ensures { result ≡ is_idle phase.now }
 {
-    match phase {
-        Phase::Idle => true,
-        Phase::Address { bytes: _, count: _ }
-        | Phase::Storing(_)
-        | Phase::Ignored
-        | Phase::Missed => false,
-    }
+    matches!(phase, Phase::Idle)
 }
 
-pub(crate) fn begin(s: &mut State)
+fn begin(s: &mut State)
     ensures { s.new ≡ began s.old }
 {
     s.registers.rstat = 0;
@@ -37,8 +33,8 @@ pub(crate) fn begin(s: &mut State)
 fn recognise(s: &mut State, address: &[u8; 6])
     ensures { s.new ≡ recognised_state s.old address.now }
 {
-    if address[0] % 2 == 1 {
-        s.registers.rstat |= GROUP;
+    if has(0, address[0]) {
+        set(&mut s.registers.rstat, GROUP);
     }
     s.phase = Phase::Storing(Stored {
         used: 0,
@@ -81,92 +77,127 @@ fn set_aside(s: &mut State, value: u8) -> Option<Due>
     None
 }
 
-// What an event does at once in the phase that it finds, and what it leaves to be done.
-fn act<M: Memory>(m: &mut M, s: &mut State, event: Event) -> Option<Due>
-    ensures { (g : Setup) (among : List ℕ → Bool) → left_done g among (view (M.Memory.bytes m.new) s.new) result ≡ handled g among (view (M.Memory.bytes m.old) s.old) s.old.phase event }
-{
-    match (&mut s.phase, event) {
-        (Phase::Address { bytes: _, count: _ }, Event::Byte(value)) => set_aside(s, value),
-        (Phase::Storing(t), Event::Byte(value)) => {
-            if store_further(m, t, value) {
+impl<M: Memory> Chip<M> {
+    // What an event does at once in the phase that it finds, and what it leaves to be done.
+    fn act(&mut self, event: Event) -> Option<Due>
+        ensures { (g : Setup) (among : List ℕ → Bool) → left_done g among (seen M.Memory.bytes self.new) result ≡ handled g among (seen M.Memory.bytes self.old) self.old.state.phase event }
+    {
+        match (&mut self.state.phase, event) {
+            (Phase::Address { bytes: _, count: _ }, Event::Byte(value)) => set_aside(
+                &mut self.state,
+                value,
+            ),
+            (Phase::Storing(t), Event::Byte(value)) => {
+                if store_further(&mut self.memory, t, value) {
+                    None
+                } else {
+                    Some(Due::Buffer(value))
+                }
+            }
+            (Phase::Storing(_), Event::End(last)) => Some(Due::Verdict(last)),
+            (Phase::Storing(_), Event::Abort(Fault::Overrun)) => {
+                overrun(&mut self.state);
                 None
-            } else {
-                Some(Due::Buffer(value))
+            }
+            (Phase::Idle | Phase::Ignored | Phase::Missed, Event::Byte(_)) => None,
+            (
+                Phase::Idle
+                | Phase::Address { bytes: _, count: _ }
+                | Phase::Ignored
+                | Phase::Missed,
+                Event::End(_) | Event::Abort(_),
+            )
+            | (Phase::Storing(_), Event::Abort(Fault::Collision)) => {
+                self.state.phase = Phase::Idle;
+                None
             }
         }
-        (Phase::Storing(_), Event::End(last)) => Some(Due::Verdict(last)),
-        (Phase::Storing(_), Event::Abort(Fault::Overrun)) => {
-            overrun(s);
-            None
+    }
+
+    // Asks the recogniser about the address, of which the last byte has come.
+    fn ask<R: Recogniser>(&mut self, g: &Setup, r: &R, value: u8)
+        ensures { seen M.Memory.bytes self.new ≡ asked g.now (R.Recogniser.members r.now) (seen M.Memory.bytes self.old) self.old.state.phase value }
+    {
+        let Phase::Address {
+            bytes: mut bytes,
+            count: _,
+        } = self.state.phase
+        else {
+            return;
+        };
+        bytes[5] = value;
+        if r.accepts(&bytes) {
+            recognise(&mut self.state, &bytes);
+            self.store_all(g, &bytes);
+        } else {
+            self.state.phase = Phase::Ignored;
         }
-        (Phase::Idle | Phase::Ignored | Phase::Missed, Event::Byte(_)) => None,
-        (
-            Phase::Idle | Phase::Address { bytes: _, count: _ } | Phase::Ignored | Phase::Missed,
-            Event::End(_) | Event::Abort(_),
-        )
-        | (Phase::Storing(_), Event::Abort(Fault::Collision)) => {
-            s.phase = Phase::Idle;
-            None
+    }
+
+    // Does what an event has left to be done.
+    fn carry_out<R: Recogniser>(&mut self, g: &Setup, r: &R, due: Due)
+        ensures { seen M.Memory.bytes self.new ≡ carried g.now (R.Recogniser.members r.now) (seen M.Memory.bytes self.old) self.old.state.phase due }
+    {
+        match due {
+            Due::Recognition(value) => self.ask(g, r, value),
+            Due::Buffer(value) => if let Phase::Storing(full) = self.state.phase {
+                self.store_fresh(g, full, value);
+            },
+            Due::Verdict(last) => if let Phase::Storing(stored) = self.state.phase {
+                self.finish(g, stored, last);
+            },
         }
     }
-}
 
-// Asks the recogniser about the address, of which the last byte has come.
-fn ask<M: Memory, R: Recogniser>(m: &mut M, g: &Setup, r: &R, s: &mut State, value: u8)
-    ensures { view (M.Memory.bytes m.new) s.new ≡ asked g.now (R.Recogniser.members r.now) (view (M.Memory.bytes m.old) s.old) s.old.phase value }
-{
-    let Phase::Address {
-        bytes: mut bytes,
-        count: _,
-    } = s.phase
-    else {
-        return;
-    };
-    bytes[5] = value;
-    if r.accepts(&bytes) {
-        recognise(s, &bytes);
-        store_all(m, g, s, &bytes);
-    } else {
-        s.phase = Phase::Ignored;
+    // What an event does, by the phase that it finds.
+    fn handle<R: Recogniser>(&mut self, g: &Setup, r: &R, event: Event)
+        ensures { seen M.Memory.bytes self.new ≡ handled g.now (R.Recogniser.members r.now) (seen M.Memory.bytes self.old) self.old.state.phase event }
+    {
+        if let Some(due) = self.act(event) {
+            self.carry_out(g, r, due);
+        }
     }
-}
 
-// Does what an event has left to be done.
-fn carry_out<M: Memory, R: Recogniser>(m: &mut M, g: &Setup, r: &R, s: &mut State, due: Due)
-    ensures { view (M.Memory.bytes m.new) s.new ≡ carried g.now (R.Recogniser.members r.now) (view (M.Memory.bytes m.old) s.old) s.old.phase due }
-{
-    match due {
-        Due::Recognition(value) => ask(m, g, r, s, value),
-        Due::Buffer(value) => if let Phase::Storing(full) = s.phase {
-            store_fresh(m, g, s, full, value);
-        },
-        Due::Verdict(last) => if let Phase::Storing(stored) = s.phase {
-            finish(m, g, s, stored, last);
-        },
+    // An event of the arrival under way. The CRC register runs over a byte last, as nothing else goes by the register.
+    fn arrive<R: Recogniser>(&mut self, g: &Setup, r: &R, event: Event)
+        ensures { seen M.Memory.bytes self.new ≡ arrives g.now (R.Recogniser.members r.now) (seen M.Memory.bytes self.old) event }
+    {
+        self.handle(g, r, event);
+        if let Event::Byte(value) = event {
+            self.state.crc = crc::byte(self.state.crc, value);
+        }
     }
-}
 
-// What an event does, by the phase that it finds.
-fn handle<M: Memory, R: Recogniser>(m: &mut M, g: &Setup, r: &R, s: &mut State, event: Event)
-    ensures { view (M.Memory.bytes m.new) s.new ≡ handled g.now (R.Recogniser.members r.now) (view (M.Memory.bytes m.old) s.old) s.old.phase event }
-{
-    if let Some(due) = act(m, s, event) {
-        carry_out(m, g, r, s, due);
+    // Begins an arrival, where none is under way.
+    pub(crate) fn start(&mut self, setup: Option<Setup>) -> Result<(), Refusal>
+        ensures answer { result ≡ begin_answer (shown_with setup (seen M.Memory.bytes self.old)) }
+        ensures after { shown_with setup (seen M.Memory.bytes self.new) ≡ begin_after (shown_with setup (seen M.Memory.bytes self.old)) }
+    {
+        if setup.is_none() {
+            return Err(Refusal::Shut);
+        }
+        if !idle(&self.state.phase) {
+            return Err(Refusal::UnderWay);
+        }
+        begin(&mut self.state);
+        Ok(())
     }
-}
 
-// An event of the arrival under way. The CRC register runs over a byte last, as nothing else goes by the register.
-pub(crate) fn arrive<M: Memory, R: Recogniser>(
-    m: &mut M,
-    g: &Setup,
-    r: &R,
-    s: &mut State,
-    event: Event,
-)
-    ensures { view (M.Memory.bytes m.new) s.new ≡ arrives g.now (R.Recogniser.members r.now) (view (M.Memory.bytes m.old) s.old) event }
-{
-    handle(m, g, r, s, event);
-    if let Event::Byte(value) = event {
-        s.crc = crc::byte(s.crc, value);
+    // An event, where an arrival is under way.
+    pub(crate) fn event<R: Recogniser>(
+        &mut self,
+        setup: Option<Setup>,
+        r: &R,
+        event: Event,
+    ) -> Result<(), Refusal>
+        ensures answer { result ≡ event_answer (shown_with setup (seen M.Memory.bytes self.old)) }
+        ensures after { shown_with setup (seen M.Memory.bytes self.new) ≡ event_after (R.Recogniser.members r.now) (shown_with setup (seen M.Memory.bytes self.old)) event }
+    {
+        let g = setup.ok_or(Refusal::Shut)?;
+        if idle(&self.state.phase) {
+            return Err(Refusal::NoArrival);
+        }
+        self.arrive(&g, r, event);
+        Ok(())
     }
 }

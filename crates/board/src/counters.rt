@@ -1,7 +1,10 @@
-ghost use Rattle.std.specs.Prelude.{◌≡◌};
-ghost use Rattle.rules.specs.Arrivals.{count_up, noted};
+ghost use Rattle.std.specs.Prelude.{◌≡◌, ◌<◌};
+ghost use Rattle.rules.specs.Arrivals.{count_up, noted, counted};
+ghost use Rattle.rules.specs.Views.{with_rstat};
+ghost use Rattle.rules.specs.Bits.{with_bit};
 
-const CNT: u8 = 0x20;
+use crate::bits::{CNT, set};
+use rules::state::Registers;
 
 const HIGH_COUNT: u8 = 128;
 
@@ -12,13 +15,24 @@ pub(crate) fn up(counter: u8) -> u8
     counter.saturating_add(1)
 }
 
-// INTSTAT after a count that left the counter.
-pub(crate) fn note(counter: u8, intstat: u8) -> u8
-    ensures { result ≡ noted counter intstat }
+// Counts, and notes in INTSTAT that the counter is high.
+pub(crate) fn count(counter: &mut u8, intstat: &mut u8)
+    ensures counter { counter.new ≡ count_up counter.old }
+    ensures intstat { intstat.new ≡ noted counter.new intstat.old }
 {
-    if HIGH_COUNT <= counter {
-        intstat | CNT
-    } else {
-        intstat
+    *counter = up(*counter);
+    if HIGH_COUNT <= *counter {
+        set(intstat, CNT);
     }
+}
+
+// Counts an arrival that is lost, with a bit of RSTAT and one of INTSTAT that say why.
+pub(crate) fn count_lost(r: &mut Registers, reason: u32, cause: u32)
+    requires reason { reason < 8 }
+    requires cause { cause < 8 }
+    ensures { r.new ≡ counted cause (with_rstat r.old (with_bit reason r.old.rstat)) }
+{
+    set(&mut r.rstat, reason);
+    set(&mut r.intstat, cause);
+    count(&mut r.mpcnt, &mut r.intstat);
 }

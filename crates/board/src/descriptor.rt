@@ -1,6 +1,8 @@
 ghost use Rattle.std.specs.Prelude.{◌≡◌, ◌+◌, ◌<◌, true, slice_index, slice_set};
-ghost use Rattle.rules.specs.Table.{word_at, place as place_of, next as next_after, descriptor as descriptor_of, held as is_held, lawful as is_lawful, write as written, keep_one as kept_one, keep_run as kept_run};
+ghost use Rattle.rules.specs.Table.{word_at, place as place_of, next as next_after, descriptor as descriptor_of, lawful as is_lawful, write as written, keep_one as kept_one, keep_run as kept_run};
 
+use crate::bits::{HELD, has};
+use crate::round::Round;
 use memory::address::Address;
 use memory::memory::Memory;
 use rules::state::{Descriptor, Setup};
@@ -9,17 +11,14 @@ use rules::state::{Descriptor, Setup};
 pub(crate) fn byte<M: Memory>(m: &M, at: Address) -> u8
     ensures { result ≡ slice_index (M.Memory.bytes m.now) at.0 }
 {
-    match m.read(at) {
-        Ok(value) => value,
-        Err(_) => 0,
-    }
+    m.read(at).unwrap_or(0)
 }
 
 // A number of two bytes, by the addresses of its low and its high byte.
 fn word<M: Memory>(m: &M, low: Address, high: Address) -> u16
     ensures { result ≡ word_at (M.Memory.bytes m.now) low.0 high.0 }
 {
-    byte(m, low) as u16 + 256 * byte(m, high) as u16
+    u16::from_le_bytes([byte(m, low), byte(m, high)])
 }
 
 // Replaces the byte at an address; past the memory's end nothing changes.
@@ -57,19 +56,13 @@ pub(crate) fn descriptor<M: Memory>(m: &M, g: &Setup, d: u8) -> Descriptor
     }
 }
 
-pub(crate) fn held(e: &Descriptor) -> bool
-    ensures { result ≡ is_held e.now }
-{
-    e.flags % 2 == 1
-}
-
 pub(crate) fn lawful(g: &Setup, e: &Descriptor) -> bool
     ensures { result ≡ is_lawful g.now e.now }
 {
     let start = e.start as u32;
     let end = start + e.length as u32;
     e.flags < 16
-        && (held(e) || e.flags == 0)
+        && (has(HELD, e.flags) || e.flags == 0)
         && 0 < e.length
         && end <= g.size
         && !(start < g.rend.start().0 && g.rbegin.start().0 < end)
@@ -81,10 +74,11 @@ pub(crate) fn write<M: Memory>(m: &mut M, g: &Setup, d: u8, flags: u8, status: u
     ensures { M.Memory.bytes m.new ≡ written g.now (M.Memory.bytes m.old) d flags status fill }
 {
     let Address(p) = place(g, d);
+    let [low, high] = fill.to_le_bytes();
     put(m, Address(p), flags);
     put(m, Address(p + 1), status);
-    put(m, Address(p + 6), (fill % 256) as u8);
-    put(m, Address(p + 7), (fill / 256) as u8);
+    put(m, Address(p + 6), low);
+    put(m, Address(p + 7), high);
 }
 
 fn keep_one<M: Memory>(m: &mut M, g: &Setup, d: u8, filled: u16, status: u8, start: bool, end: bool)
@@ -110,9 +104,7 @@ fn keep_one<M: Memory>(m: &mut M, g: &Setup, d: u8, filled: u16, status: u8, sta
 pub(crate) fn keep_run<M: Memory>(m: &mut M, g: &Setup, curr: u8, filled: u16, status: u8, used: u8)
     ensures { M.Memory.bytes m.new ≡ kept_run g.now (M.Memory.bytes m.old) curr filled status true used }
 {
-    let mut d = curr;
-    for i in 0..used {
-        keep_one(m, g, d, filled, status, i == 0, i + 1 == used);
-        d = next(g, d);
+    for (i, d) in Round::new(g, curr, used).enumerate() {
+        keep_one(m, g, d, filled, status, i == 0, i + 1 == used as usize);
     }
 }

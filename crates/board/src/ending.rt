@@ -1,29 +1,21 @@
 ghost use Rattle.std.specs.Prelude.{◌≡◌};
-ghost use Rattle.rules.specs.Views.{view};
+ghost use Rattle.board.specs.Shown.{seen};
 ghost use Rattle.rules.specs.Arrivals.{matched as matched_registers, mismatched, kept, is_runt, finished, overrun as overrun_state};
 
-use crate::counters::{note, up};
+use crate::bits::{CRC, FAE, OVER, PRX, RUNTS, RXE, SEP, has, set};
+use crate::chip::Chip;
+use crate::counters::{count, count_lost};
 use crate::descriptor::{keep_run, next};
 use memory::memory::Memory;
 use rules::state::{LastByte, Phase, Registers, Setup, State, Stored};
-
-const OVER: u8 = 0x08;
-
-const FAE: u8 = 0x04;
-
-const CRC: u8 = 0x02;
-
-const PRX: u8 = 0x01;
-
-const RXE: u8 = 0x04;
 
 const SHORTEST_FRAME: u8 = 64;
 
 fn matched(r: &mut Registers)
     ensures { r.new ≡ matched_registers r.old }
 {
-    r.rstat |= PRX;
-    r.intstat |= PRX;
+    set(&mut r.rstat, PRX);
+    set(&mut r.intstat, PRX);
 }
 
 fn mismatch(r: &mut Registers, last: LastByte)
@@ -31,58 +23,63 @@ fn mismatch(r: &mut Registers, last: LastByte)
 {
     match last {
         LastByte::Ragged => {
-            r.rstat |= FAE;
-            r.alicnt = up(r.alicnt);
-            r.intstat = note(r.alicnt, r.intstat);
+            set(&mut r.rstat, FAE);
+            count(&mut r.alicnt, &mut r.intstat);
         }
         LastByte::Whole => {
-            r.rstat |= CRC;
-            r.crccnt = up(r.crccnt);
-            r.intstat = note(r.crccnt, r.intstat);
+            set(&mut r.rstat, CRC);
+            count(&mut r.crccnt, &mut r.intstat);
         }
     }
-}
-
-// Keeps the arrival, with the registers as they are.
-fn keep<M: Memory>(m: &mut M, g: &Setup, s: &mut State, t: Stored)
-    ensures { view (M.Memory.bytes m.new) s.new ≡ kept g.now (view (M.Memory.bytes m.old) s.old) t s.old.registers }
-{
-    keep_run(m, g, s.curr, t.filled, s.registers.rstat, t.used);
-    s.curr = next(g, t.latest);
-    s.phase = Phase::Idle;
 }
 
 fn runt(g: &Setup, t: &Stored) -> bool
     ensures { result ≡ is_runt g.now t.now }
 {
-    t.total < SHORTEST_FRAME && !(g.rcon / 2 % 2 == 1)
-}
-
-// The end of a storing arrival.
-pub(crate) fn finish<M: Memory>(m: &mut M, g: &Setup, s: &mut State, t: Stored, last: LastByte)
-    ensures { view (M.Memory.bytes m.new) s.new ≡ finished g.now (view (M.Memory.bytes m.old) s.old) t last }
-{
-    if runt(g, &t) {
-        s.phase = Phase::Idle;
-    } else if crc::matches(s.crc) {
-        matched(&mut s.registers);
-        keep(m, g, s, t);
-    } else {
-        mismatch(&mut s.registers, last);
-        if g.rcon % 2 == 1 {
-            s.registers.intstat |= RXE;
-            keep(m, g, s, t);
-        } else {
-            s.phase = Phase::Idle;
-        }
-    }
+    t.total < SHORTEST_FRAME && !has(RUNTS, g.rcon)
 }
 
 pub(crate) fn overrun(s: &mut State)
     ensures { s.new ≡ overrun_state s.old }
 {
-    s.registers.rstat |= OVER;
-    s.registers.mpcnt = up(s.registers.mpcnt);
-    s.registers.intstat = note(s.registers.mpcnt, s.registers.intstat | RXE);
+    count_lost(&mut s.registers, OVER, RXE);
     s.phase = Phase::Idle;
+}
+
+impl<M: Memory> Chip<M> {
+    // Keeps the arrival, with the registers as they are.
+    fn keep(&mut self, g: &Setup, t: Stored)
+        ensures { seen M.Memory.bytes self.new ≡ kept g.now (seen M.Memory.bytes self.old) t self.old.state.registers }
+    {
+        keep_run(
+            &mut self.memory,
+            g,
+            self.state.curr,
+            t.filled,
+            self.state.registers.rstat,
+            t.used,
+        );
+        self.state.curr = next(g, t.latest);
+        self.state.phase = Phase::Idle;
+    }
+
+    // The end of a storing arrival.
+    pub(crate) fn finish(&mut self, g: &Setup, t: Stored, last: LastByte)
+        ensures { seen M.Memory.bytes self.new ≡ finished g.now (seen M.Memory.bytes self.old) t last }
+    {
+        if runt(g, &t) {
+            self.state.phase = Phase::Idle;
+        } else if crc::matches(self.state.crc) {
+            matched(&mut self.state.registers);
+            self.keep(g, t);
+        } else {
+            mismatch(&mut self.state.registers, last);
+            if has(SEP, g.rcon) {
+                set(&mut self.state.registers.intstat, RXE);
+                self.keep(g, t);
+            } else {
+                self.state.phase = Phase::Idle;
+            }
+        }
+    }
 }

@@ -12,12 +12,14 @@ fn describe_one<M: Memory>(m: &mut M, rbegin: Page, d: usize, buffer: &Buffer)
     ensures { M.Memory.bytes m.new ≡ described_one rbegin.0 (M.Memory.bytes m.old) d buffer.now }
 {
     let p = rbegin.start().0 + 8 * d as u32;
+    let [start_low, start_high, _, _] = buffer.start.0.to_le_bytes();
+    let [length_low, length_high] = buffer.length.to_le_bytes();
     put(m, Address(p), 0);
     put(m, Address(p + 1), 0);
-    put(m, Address(p + 2), (buffer.start.0 % 256) as u8);
-    put(m, Address(p + 3), (buffer.start.0 / 256 % 256) as u8);
-    put(m, Address(p + 4), (buffer.length % 256) as u8);
-    put(m, Address(p + 5), (buffer.length / 256 % 256) as u8);
+    put(m, Address(p + 2), start_low);
+    put(m, Address(p + 3), start_high);
+    put(m, Address(p + 4), length_low);
+    put(m, Address(p + 5), length_high);
     put(m, Address(p + 6), 0);
     put(m, Address(p + 7), 0);
 }

@@ -1,10 +1,14 @@
 ghost use Rattle.std.specs.Prelude.{◌≡◌};
-ghost use Rattle.rules.specs.Registers.{readable, writable, register_value, read_state, written_state, lowest_both};
+ghost use Rattle.rules.specs.Registers.{readable, writable, register_value, read_state, written_state, lowest_both, read_answer, read_after, write_answer, write_after, cause_answer};
+ghost use Rattle.board.specs.Shown.{seen, shown_with};
 
+use crate::chip::Chip;
+use memory::memory::Memory;
+use refusal::Refusal;
 use rules::state::{Register, Setup, State};
 
 // The register that a page reads at an address.
-pub(crate) fn to_read(page: u8, at: u8) -> Option<Register>
+fn to_read(page: u8, at: u8) -> Option<Register>
     ensures { result ≡ readable page at }
 {
     match (page, at) {
@@ -22,7 +26,7 @@ pub(crate) fn to_read(page: u8, at: u8) -> Option<Register>
 }
 
 // The register that a page writes at an address.
-pub(crate) fn to_write(page: u8, at: u8) -> Option<Register>
+fn to_write(page: u8, at: u8) -> Option<Register>
     ensures { result ≡ writable page at }
 {
     match (page, at) {
@@ -32,7 +36,7 @@ pub(crate) fn to_write(page: u8, at: u8) -> Option<Register>
     }
 }
 
-pub(crate) fn value(g: &Setup, s: &State, register: Register) -> u8
+fn value(g: &Setup, s: &State, register: Register) -> u8
     ensures { result ≡ register_value g.now s.now register }
 {
     match register {
@@ -49,7 +53,7 @@ pub(crate) fn value(g: &Setup, s: &State, register: Register) -> u8
 }
 
 // A counter that was read becomes 0.
-pub(crate) fn after_read(s: &mut State, register: Register)
+fn after_read(s: &mut State, register: Register)
     ensures { s.new ≡ read_state s.old register }
 {
     match register {
@@ -65,7 +69,7 @@ pub(crate) fn after_read(s: &mut State, register: Register)
     }
 }
 
-pub(crate) fn write(s: &mut State, register: Register, value: u8)
+fn write(s: &mut State, register: Register, value: u8)
     ensures { s.new ≡ written_state s.old register value }
 {
     match register {
@@ -82,7 +86,7 @@ pub(crate) fn write(s: &mut State, register: Register, value: u8)
 }
 
 // The lowest bit set in both INTSTAT and INTMASK, by its number.
-pub(crate) fn lowest(intstat: u8, intmask: u8) -> Option<u8>
+fn lowest(intstat: u8, intmask: u8) -> Option<u8>
     ensures { result ≡ lowest_both intstat intmask }
 {
     let both = intstat & intmask;
@@ -90,5 +94,49 @@ pub(crate) fn lowest(intstat: u8, intmask: u8) -> Option<u8>
         None
     } else {
         Some(both.trailing_zeros() as u8)
+    }
+}
+
+// The register calls, on a chip and what its open fixed.
+impl<M: Memory> Chip<M> {
+    // Reads the register at an address of a page.
+    pub(crate) fn read_at(&mut self, setup: Option<Setup>, page: u8, at: u8) -> Result<u8, Refusal>
+        ensures answer { result ≡ read_answer (shown_with setup (seen M.Memory.bytes self.old)) page at }
+        ensures after { shown_with setup (seen M.Memory.bytes self.new) ≡ read_after (shown_with setup (seen M.Memory.bytes self.old)) page at }
+    {
+        let g = setup.ok_or(Refusal::Shut)?;
+        let register = to_read(page, at).ok_or(Refusal::NoRegister)?;
+        let value = value(&g, &self.state, register);
+        after_read(&mut self.state, register);
+        Ok(value)
+    }
+
+    // Writes the register at an address of a page.
+    pub(crate) fn write_at(
+        &mut self,
+        setup: Option<Setup>,
+        page: u8,
+        at: u8,
+        value: u8,
+    ) -> Result<(), Refusal>
+        ensures answer { result ≡ write_answer (shown_with setup (seen M.Memory.bytes self.old)) page at }
+        ensures after { shown_with setup (seen M.Memory.bytes self.new) ≡ write_after (shown_with setup (seen M.Memory.bytes self.old)) page at value }
+    {
+        if setup.is_none() {
+            return Err(Refusal::Shut);
+        }
+        let register = to_write(page, at).ok_or(Refusal::NoRegister)?;
+        write(&mut self.state, register, value);
+        Ok(())
+    }
+
+    // The cause, of an open board.
+    pub(crate) fn lowest_cause(&self, setup: Option<Setup>) -> Result<Option<u8>, Refusal>
+        ensures { result ≡ cause_answer (shown_with setup (seen M.Memory.bytes self.now)) }
+    {
+        if setup.is_none() {
+            return Err(Refusal::Shut);
+        }
+        Ok(lowest(self.state.registers.intstat, self.state.registers.intmask))
     }
 }

@@ -1,31 +1,19 @@
 ghost use Rattle.std.specs.Prelude.{◌≡◌, ◌+◌, if◌then◌else◌, nat_lt, slice_set};
-ghost use Rattle.rules.specs.Bits.{OVW as OVW_bit};
-ghost use Rattle.rules.specs.Views.{view};
-ghost use Rattle.rules.specs.Arrivals.{counted, missed, wanted as wanted_next, further, store_fresh as stored_fresh, store_in as stored_in, store_all as all_stored};
+ghost use Rattle.board.specs.Shown.{seen};
+ghost use Rattle.rules.specs.Arrivals.{missed, wanted as wanted_next, further, store_fresh as stored_fresh, store_in as stored_in, store_all as all_stored};
 
-use crate::counters::{note, up};
-use crate::descriptor::{descriptor, held, lawful, next, put};
+use crate::bits::{HELD, MPA, OVW, has};
+use crate::chip::Chip;
+use crate::counters::{count_lost, up};
+use crate::descriptor::{descriptor, lawful, next, put};
 use memory::address::Address;
 use memory::memory::Memory;
-use rules::state::{Phase, Registers, Setup, State, Stored};
-
-const MPA: u8 = 0x10;
-
-const OVW: u8 = 0x10;
-
-// A count in MPCNT of a missed arrival.
-fn count_missed(r: &mut Registers)
-    ensures { r.new ≡ counted OVW_bit r.old }
-{
-    r.mpcnt = up(r.mpcnt);
-    r.intstat = note(r.mpcnt, r.intstat | OVW);
-}
+use rules::state::{Phase, Setup, State, Stored};
 
 pub(crate) fn miss(s: &mut State)
     ensures { s.new ≡ missed s.old }
 {
-    s.registers.rstat |= MPA;
-    count_missed(&mut s.registers);
+    count_lost(&mut s.registers, MPA, OVW);
     s.phase = Phase::Missed;
 }
 
@@ -36,27 +24,6 @@ fn wanted(g: &Setup, s: &State, t: &Stored) -> u8
         s.curr
     } else {
         next(g, t.latest)
-    }
-}
-
-// Stores a byte in the next buffer, or misses the arrival.
-pub(crate) fn store_fresh<M: Memory>(m: &mut M, g: &Setup, s: &mut State, t: Stored, value: u8)
-    ensures { view (M.Memory.bytes m.new) s.new ≡ stored_fresh g.now (view (M.Memory.bytes m.old) s.old) t value }
-{
-    let d = wanted(g, s, &t);
-    let e = descriptor(m, g, d);
-    if t.used < g.count && !held(&e) && lawful(g, &e) {
-        put(m, Address(e.start as u32), value);
-        s.phase = Phase::Storing(Stored {
-            used: t.used + 1,
-            latest: d,
-            start: e.start,
-            length: e.length,
-            filled: 1,
-            total: up(t.total),
-        });
-    } else {
-        miss(s);
     }
 }
 
@@ -76,23 +43,46 @@ pub(crate) fn store_further<M: Memory>(m: &mut M, t: &mut Stored, value: u8) -> 
     }
 }
 
-// Stores a byte where the arrival is storing.
-fn store_in<M: Memory>(m: &mut M, g: &Setup, s: &mut State, value: u8)
-    ensures { view (M.Memory.bytes m.new) s.new ≡ stored_in g.now (view (M.Memory.bytes m.old) s.old) s.old.phase value }
-{
-    if let Phase::Storing(t) = &mut s.phase {
-        if !store_further(m, t, value) {
-            let full = *t;
-            store_fresh(m, g, s, full, value);
+impl<M: Memory> Chip<M> {
+    // Stores a byte in the next buffer, or misses the arrival.
+    pub(crate) fn store_fresh(&mut self, g: &Setup, t: Stored, value: u8)
+        ensures { seen M.Memory.bytes self.new ≡ stored_fresh g.now (seen M.Memory.bytes self.old) t value }
+    {
+        let d = wanted(g, &self.state, &t);
+        let e = descriptor(&self.memory, g, d);
+        if t.used < g.count && !has(HELD, e.flags) && lawful(g, &e) {
+            put(&mut self.memory, Address(e.start as u32), value);
+            self.state.phase = Phase::Storing(Stored {
+                used: t.used + 1,
+                latest: d,
+                start: e.start,
+                length: e.length,
+                filled: 1,
+                total: up(t.total),
+            });
+        } else {
+            miss(&mut self.state);
         }
     }
-}
 
-// Stores the six bytes of the address in turn.
-pub(crate) fn store_all<M: Memory>(m: &mut M, g: &Setup, s: &mut State, bytes: &[u8; 6])
-    ensures { view (M.Memory.bytes m.new) s.new ≡ all_stored g.now (view (M.Memory.bytes m.old) s.old) bytes.now }
-{
-    for value in bytes {
-        store_in(m, g, s, *value);
+    // Stores a byte where the arrival is storing.
+    fn store_in(&mut self, g: &Setup, value: u8)
+        ensures { seen M.Memory.bytes self.new ≡ stored_in g.now (seen M.Memory.bytes self.old) self.old.state.phase value }
+    {
+        if let Phase::Storing(t) = &mut self.state.phase {
+            if !store_further(&mut self.memory, t, value) {
+                let full = *t;
+                self.store_fresh(g, full, value);
+            }
+        }
+    }
+
+    // Stores the six bytes of the address in turn.
+    pub(crate) fn store_all(&mut self, g: &Setup, bytes: &[u8; 6])
+        ensures { seen M.Memory.bytes self.new ≡ all_stored g.now (seen M.Memory.bytes self.old) bytes.now }
+    {
+        for value in bytes {
+            self.store_in(g, *value);
+        }
     }
 }

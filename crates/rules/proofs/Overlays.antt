@@ -55,7 +55,7 @@ unfolding span overlay
 copy_all m out r a at n j h e =
     let z : n - j ≡ 0 = omega arith in sym (ap (λ (k : ℕ). overlay out (at + j) (span m (a + j) k)) z) ∙ e
 
--- the copy of a frame, i of its n buffers being written
+-- the bytes of a frame, i of its n buffers being past
 pub frame_bytes_more : (g : Setup) (m : List ℕ) (d n i : ℕ) (e : Descriptor) → i < n → e ≡ descriptor g m d →
     frame_bytes g m d (n - i) ≡ span m e.start e.fill ++ frame_bytes g m (next g d) (n - (i + 1))
 unfolding frame_bytes
@@ -72,15 +72,3 @@ module _ (g : Setup) (m : List ℕ) (d n i : ℕ) (e : Descriptor) (h : i < n) (
   length_frame_bytes_more =
       ap length (frame_bytes_more g m d n i e h q) ∙ length-append (span m e.start e.fill) (frame_bytes g m (next g d) (n - (i + 1)))
       ∙ ap (λ (x : ℕ). x + length (frame_bytes g m (next g d) (n - (i + 1)))) (length_span m e.start e.fill)
-
-  pub copy_run_step : (out out' r : List ℕ) (at d' : ℕ) → overlay out at (frame_bytes g m d (n - i)) ≡ r →
-      out' ≡ overlay out at (span m e.start e.fill) → d' ≡ next g d → overlay out' (at + e.fill) (frame_bytes g m d' (n - (i + 1))) ≡ r
-  copy_run_step out out' r at d' inv p w =
-      let s : at + length (span m e.start e.fill) ≡ at + e.fill = ap (λ (x : ℕ). at + x) (length_span m e.start e.fill) in
-      (λ j. overlay (p j) (at + e.fill) (frame_bytes g m (w j) (n - (i + 1))))
-      ∙ ap (λ (x : ℕ). overlay (overlay out at (span m e.start e.fill)) x (frame_bytes g m (next g d) (n - (i + 1)))) (sym s)
-      ∙ sym (overlay_append out at (span m e.start e.fill) (frame_bytes g m (next g d) (n - (i + 1))))
-      ∙ sym (ap (overlay out at) (frame_bytes_more g m d n i e h q)) ∙ inv
-
-pub copy_run_all : (g : Setup) (m out r : List ℕ) (d n i at : ℕ) → n ≤ i → overlay out at (frame_bytes g m d (n - i)) ≡ r → out ≡ r
-copy_run_all g m out r d n i at h e = sym (overlay_none out at) ∙ ap (overlay out at) (sym (frame_bytes_none g m d n i h)) ∙ e

@@ -1,4 +1,5 @@
 use memory::address::Page;
+use refusal::Refusal;
 
 /// What an accepted open fixes.
 #[derive(Clone, Copy)]
@@ -39,6 +40,22 @@ pub enum Break {
     Misplaced(u8),
     /// It is the last that the run may have, and lacks LAST.
     Endless(u8),
+}
+
+/// However a run is broken, it is refused at the descriptor.
+impl From<Break> for Refusal {
+    ghost use Rattle.std.specs.Prelude.{◌≡◌};
+    ghost use Rattle.rules.specs.Host.{judged};
+
+    ghost from_gives = { λ broken refusal. refusal ≡ judged broken };
+
+    fn from(broken: Break) -> Refusal {
+        match broken {
+            Break::Unlawful(descriptor)
+            | Break::Misplaced(descriptor)
+            | Break::Endless(descriptor) => Refusal::Broken(descriptor),
+        }
+    }
 }
 
 /// How far an arrival is stored.

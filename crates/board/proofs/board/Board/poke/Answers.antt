@@ -1,4 +1,5 @@
-use Rattle.std.proofs.Common.{rules}
+use Rattle.std.proofs.Common.{ap, rules}
+use Rattle.rules.specs.Views.{with_view}
 use Rattle.board.specs.Shown.{shown}
 use Rattle.board.proofs.Pokes.{poke_writes}
 use Rattle.board.proofs.board.Board.poke.Goals as goal
@@ -8,6 +9,6 @@ returns g c =
     let b = shown g.M.Memory.bytes c.args.self.now in
     record {
       answer = search rules;
-      after = poke_writes b _ c.args.at.0 c.args.value (search rules) c.write.ensures.after;
+      after = poke_writes b _ c.args.at.0 c.args.value (search rules) (ap (with_view b) c.write.ensures.after);
       same = search rules;
     }

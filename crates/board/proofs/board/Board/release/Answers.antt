@@ -3,10 +3,6 @@ use Rattle.rules.specs.Calls.Call.{releases}
 use Rattle.rules.proofs.Joined.{keeps}
 use Rattle.board.proofs.board.Board.release.Goals as goal
 
-pub returns-in_err-frame : goal.returns-in_err-frame
-returns-in_err-frame g c =
-    record { answer = search rules; after = search rules; same = search rules; keeps = keeps _ (releases _) _ _ _ (search rules) (search rules) }
-
 pub returns : goal.returns
 returns g c =
     record { answer = search rules; after = search rules; same = search rules; keeps = keeps _ (releases _) _ _ _ (search rules) (search rules) }

@@ -1,0 +1,61 @@
+ghost use Rattle.std.specs.Prelude.{◌≡◌, ◌+◌, ◌&&◌, if◌then◌else◌, length, nat_le, slice_set};
+ghost use Rattle.rules.specs.Table.{span, frame_bytes};
+ghost use Rattle.rules.specs.Host.{overlay};
+
+use crate::descriptor::{byte, descriptor};
+use crate::round::Round;
+use memory::address::Address;
+use memory::memory::Memory;
+use rules::state::Setup;
+
+// Replaces the byte at a place of a buffer; past its end nothing changes.
+fn set_at(out: &mut [u8], at: usize, value: u8)
+    ensures { out.new ≡ slice_set out.old at value }
+{
+    if at < out.len() {
+        out[at] = value;
+    }
+}
+
+// Copies bytes of memory to a place of the caller's buffer one by one.
+fn copy_each<M: Memory>(m: &M, start: u16, fill: u16, out: &mut [u8], at: u32)
+    ensures { out.new ≡ overlay out.old at (span (M.Memory.bytes m.now) start fill) }
+{
+    for j in 0..fill {
+        let value = byte(m, Address(start as u32 + j as u32));
+        set_at(out, at as usize + j as usize, value);
+    }
+}
+
+// The same as a whole, where memory and buffer have all the places. Answers whether it is so; else nothing changes.
+fn copy_whole<M: Memory>(m: &M, start: u16, fill: u16, out: &mut [u8], at: u32) -> bool
+    ensures answer { result ≡ (nat_le (at + fill) (length out.old) && nat_le (start + fill) (length (M.Memory.bytes m.now))) }
+    ensures copied { out.new ≡ (if result then overlay out.old at (span (M.Memory.bytes m.now) start fill) else out.old) }
+{
+    let at = at as usize;
+    let end = at + fill as usize;
+    end <= out.len()
+        && m.read_slice(Address(start as u32), &mut out[at..end])
+            .is_ok()
+}
+
+// Copies the first fill bytes of a buffer to a place of the caller's.
+fn copy<M: Memory>(m: &M, start: u16, fill: u16, out: &mut [u8], at: u32)
+    ensures { out.new ≡ overlay out.old at (span (M.Memory.bytes m.now) start fill) }
+{
+    if !copy_whole(m, start, fill, out, at) {
+        copy_each(m, start, fill, out, at);
+    }
+}
+
+// Copies a frame to the front of the caller's buffer.
+pub(crate) fn copy_run<M: Memory>(m: &M, g: &Setup, from: u8, count: u8, out: &mut [u8])
+    ensures { out.new ≡ overlay out.old 0 (frame_bytes g.now (M.Memory.bytes m.now) from count) }
+{
+    let mut at = 0;
+    for d in Round::new(g, from, count) {
+        let e = descriptor(m, g, d);
+        copy(m, e.start, e.fill, out, at);
+        at += e.fill as u32;
+    }
+}

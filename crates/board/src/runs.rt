@@ -1,0 +1,75 @@
+ghost use Rattle.std.specs.Prelude.{◌≡◌};
+ghost use Rattle.rules.specs.Table.{in_place as stands_in_place, run as run_from, onward, take_one as taken_one, take_run, clear_run};
+
+use crate::bits::{FIRST, HELD, LAST, TAKEN, has, set};
+use crate::descriptor::{byte, descriptor, lawful, next, place, put, write};
+use crate::round::Round;
+use memory::memory::Memory;
+use rules::state::{Break, Descriptor, Run, Setup};
+
+// Whether a descriptor is HELD, TAKEN as the run asks, and FIRST at its start alone.
+fn in_place(taking: bool, start: bool, e: &Descriptor) -> bool
+    ensures { result ≡ stands_in_place taking start e.now }
+{
+    has(HELD, e.flags) && has(TAKEN, e.flags) == taking && has(FIRST, e.flags) == start
+}
+
+// The frame whose run of descriptors begins at one, or what breaks it.
+pub(crate) fn run<M: Memory>(m: &M, g: &Setup, from: u8, taking: bool) -> Result<Run, Break>
+    ensures { result ≡ run_from g.now (M.Memory.bytes m.now) taking from }
+{
+    let mut latest = from;
+    let mut frame = Run {
+        count: 0,
+        length: 0,
+        status: 0,
+    };
+    for d in Round::new(g, from, g.count) {
+        let e = descriptor(m, g, d);
+        if !lawful(g, &e) {
+            return Err(Break::Unlawful(d));
+        }
+        if !in_place(taking, frame.count == 0, &e) {
+            return Err(Break::Misplaced(d));
+        }
+        frame.count += 1;
+        frame.length += e.fill as u32;
+        frame.status = e.status;
+        if has(LAST, e.flags) {
+            return Ok(frame);
+        }
+        latest = d;
+    }
+    Err(Break::Endless(latest))
+}
+
+// Frees the descriptors of a run.
+pub(crate) fn clear<M: Memory>(m: &mut M, g: &Setup, from: u8, count: u8)
+    ensures { M.Memory.bytes m.new ≡ clear_run g.now (M.Memory.bytes m.old) from count }
+{
+    for d in Round::new(g, from, count) {
+        write(m, g, d, 0, 0, 0);
+    }
+}
+
+fn take_one<M: Memory>(m: &mut M, g: &Setup, d: u8)
+    ensures { M.Memory.bytes m.new ≡ taken_one g.now (M.Memory.bytes m.old) d }
+{
+    let p = place(g, d);
+    let mut flags = byte(m, p);
+    set(&mut flags, TAKEN);
+    put(m, p, flags);
+}
+
+// Sets TAKEN in the descriptors of a run, and answers the descriptor after it.
+pub(crate) fn mark_taken<M: Memory>(m: &mut M, g: &Setup, from: u8, count: u8) -> u8
+    ensures after { M.Memory.bytes m.new ≡ take_run g.now (M.Memory.bytes m.old) from count }
+    ensures value { result ≡ onward g.now from count }
+{
+    let mut after = from;
+    for d in Round::new(g, from, count) {
+        take_one(m, g, d);
+        after = next(g, d);
+    }
+    after
+}
