@@ -3,6 +3,5 @@ use Rattle.rules.specs.Calls.Call.{begins}
 use Rattle.rules.proofs.Joined.{keeps}
 use Rattle.board.proofs.board.Board.begin.Goals as goal
 
-pub returns : goal.returns
-returns g c =
-    record { answer = search rules; after = search rules; same = search rules; keeps = keeps _ (begins) _ _ _ (search rules) (search rules) }
+pub returns-clause-keeps : goal.returns-clause-keeps
+returns-clause-keeps g c = keeps _ begins _ _ _ (search rules) (search rules)

@@ -4,6 +4,5 @@ use Rattle.rules.specs.Calls.Look.{asks_cause}
 use Rattle.rules.proofs.Joined.{keeps}
 use Rattle.board.proofs.board.Board.cause.Goals as goal
 
-pub returns : goal.returns
-returns g c =
-    record { answer = search rules; keeps = keeps _ (looks (asks_cause)) _ _ _ (search rules) (search rules) }
+pub returns-clause-keeps : goal.returns-clause-keeps
+returns-clause-keeps g c = keeps _ (looks asks_cause) _ _ _ (search rules) (search rules)

@@ -4,6 +4,5 @@ use Rattle.rules.specs.Calls.Look.{reads}
 use Rattle.rules.proofs.Joined.{keeps}
 use Rattle.board.proofs.board.Board.read_register.Goals as goal
 
-pub returns : goal.returns
-returns g c =
-    record { answer = search rules; after = search rules; same = search rules; keeps = keeps _ (looks (reads _ _)) _ _ _ (search rules) (search rules) }
+pub returns-clause-keeps : goal.returns-clause-keeps
+returns-clause-keeps g c = keeps _ (looks (reads _ _)) _ _ _ (search rules) (search rules)
