@@ -3,7 +3,7 @@ use Rattle.std.proofs.Common.{◌≡◌, ℕ, Bool, true, false, cond, ltb, leng
 use Rattle.std.proofs.lemmas.List.{set_past}
 use Rattle.std.proofs.lemmas.Bool.{cases_lt, lt-ltb, le-ltb}
 use Rattle.refusal.specs.declared.Refusal.TheVariants.{UnderWay, Outside}
-use Rattle.rules.specs.Views.{Shown, view, with_view, idle, on}
+use Rattle.rules.specs.Views.{Shown, View, view, with_view, idle, on}
 use Rattle.rules.specs.Host.{poke_after}
 
 write_is_poke : (b : Shown) (a v : ℕ) → idle b.view.state.phase ≡ true →
@@ -18,6 +18,6 @@ write_is_poke b a v h =
     (λ l. ap (λ z. with_view b (view z b.view.state)) (set_past m a v l) ∙ to false (le-ltb a (length m) l))
     (cases_lt a (length m))
 
-pub poke_writes : (b y : Shown) (a v : ℕ) → idle b.view.state.phase ≡ true →
-    y ≡ with_view b (view (set b.view.memory a v) b.view.state) → y ≡ poke_after b a v
-poke_writes b y a v h e = e ∙ write_is_poke b a v h
+pub poke_writes : (b y : Shown) (x : View) (a v : ℕ) → idle b.view.state.phase ≡ true → y ≡ with_view b x →
+    x ≡ view (set b.view.memory a v) b.view.state → y ≡ poke_after b a v
+poke_writes b y x a v h to e = to ∙ ap (with_view b) e ∙ write_is_poke b a v h

@@ -47,7 +47,7 @@ fn recognise(s: &mut State, address: &[u8; 6])
 }
 
 // What an event asks beyond the next place for its byte. It is rare, and kept out of the match on phase and event, so
-// that a byte costs little more than its place.
+// that a byte costs little more than its place. An enum, since a function may not make a closure and hand it out.
 #[derive(Clone, Copy)]
 enum Due {
     /// The sixth byte has come: the recogniser is asked.

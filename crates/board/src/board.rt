@@ -53,6 +53,7 @@ fn opened() -> State
     }
 }
 
+// Each call says that the recogniser stays: that relates two states, so no field or invariant of the type can say it.
 impl<M: Memory, R: Recogniser> Board<M, R> {
     /// A board over a memory and a recogniser. It is shut.
     pub fn new(memory: M, recogniser: R) -> Board<M, R>
@@ -71,7 +72,7 @@ impl<M: Memory, R: Recogniser> Board<M, R> {
         }
     }
 
-    // Whether the board can be opened with a layout and RCON.
+    // Whether the board can be opened with a layout and RCON, which `open` takes apart.
     fn openable(&self, layout: &Layout, rcon: u8) -> Result<(), Refusal>
         ensures { result ≡ open_answer (length (M.Memory.bytes self.now.chip.memory)) (shape layout.now) rcon }
     {

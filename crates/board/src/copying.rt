@@ -6,7 +6,7 @@ use crate::descriptor::{byte, descriptor};
 use crate::round::Round;
 use memory::address::Address;
 use memory::memory::Memory;
-use rules::state::Setup;
+use rules::state::{Descriptor, Setup};
 
 // Replaces the byte at a place of a buffer; past its end nothing changes.
 fn set_at(out: &mut [u8], at: usize, value: u8)
@@ -17,34 +17,35 @@ fn set_at(out: &mut [u8], at: usize, value: u8)
     }
 }
 
-// Copies bytes of memory to a place of the caller's buffer one by one.
-fn copy_each<M: Memory>(m: &M, start: u16, fill: u16, out: &mut [u8], at: u32)
-    ensures { out.new ≡ overlay out.old at (span (M.Memory.bytes m.now) start fill) }
+// Copies the bytes of a descriptor's buffer to a place of the caller's one by one, as far as that goes.
+fn copy_each<M: Memory>(m: &M, e: &Descriptor, out: &mut [u8], at: u32)
+    ensures { out.new ≡ overlay out.old at (span (M.Memory.bytes m.now) e.now.start e.now.fill) }
 {
-    for j in 0..fill {
-        let value = byte(m, Address(start as u32 + j as u32));
-        set_at(out, at as usize + j as usize, value);
+    // The offset counts in the memory and in the buffer at once.
+    for j in 0..e.fill as u32 {
+        let value = byte(m, Address(e.start as u32 + j));
+        set_at(out, (at as usize) + j as usize, value);
     }
 }
 
 // The same as a whole, where memory and buffer have all the places. Answers whether it is so; else nothing changes.
-fn copy_whole<M: Memory>(m: &M, start: u16, fill: u16, out: &mut [u8], at: u32) -> bool
-    ensures answer { result ≡ (nat_le (at + fill) (length out.old) && nat_le (start + fill) (length (M.Memory.bytes m.now))) }
-    ensures copied { out.new ≡ (if result then overlay out.old at (span (M.Memory.bytes m.now) start fill) else out.old) }
+fn copy_whole<M: Memory>(m: &M, e: &Descriptor, out: &mut [u8], at: u32) -> bool
+    ensures answer { result ≡ (nat_le (at + e.now.fill) (length out.old) && nat_le (e.now.start + e.now.fill) (length (M.Memory.bytes m.now))) }
+    ensures copied { out.new ≡ (if result then overlay out.old at (span (M.Memory.bytes m.now) e.now.start e.now.fill) else out.old) }
 {
     let at = at as usize;
-    let end = at + fill as usize;
+    let end = at + e.fill as usize;
     end <= out.len()
-        && m.read_slice(Address(start as u32), &mut out[at..end])
+        && m.read_slice(Address(e.start as u32), &mut out[at..end])
             .is_ok()
 }
 
-// Copies the first fill bytes of a buffer to a place of the caller's.
-fn copy<M: Memory>(m: &M, start: u16, fill: u16, out: &mut [u8], at: u32)
-    ensures { out.new ≡ overlay out.old at (span (M.Memory.bytes m.now) start fill) }
+// Copies the first fill bytes of a descriptor's buffer to a place of the caller's.
+fn copy<M: Memory>(m: &M, e: &Descriptor, out: &mut [u8], at: u32)
+    ensures { out.new ≡ overlay out.old at (span (M.Memory.bytes m.now) e.now.start e.now.fill) }
 {
-    if !copy_whole(m, start, fill, out, at) {
-        copy_each(m, start, fill, out, at);
+    if !copy_whole(m, e, out, at) {
+        copy_each(m, e, out, at);
     }
 }
 
@@ -55,7 +56,7 @@ pub(crate) fn copy_run<M: Memory>(m: &M, g: &Setup, from: u8, count: u8, out: &m
     let mut at = 0;
     for d in Round::new(g, from, count) {
         let e = descriptor(m, g, d);
-        copy(m, e.start, e.fill, out, at);
+        copy(m, &e, out, at);
         at += e.fill as u32;
     }
 }

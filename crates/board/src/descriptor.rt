@@ -7,6 +7,9 @@ use memory::address::Address;
 use memory::memory::Memory;
 use rules::state::{Descriptor, Setup};
 
+// These functions take the memory and the setup apart: that the setup stays is said by its shared borrow, and would be a
+// clause of each method of a struct of both.
+
 // The byte at an address, or 0 past the memory's end.
 pub(crate) fn byte<M: Memory>(m: &M, at: Address) -> u8
     ensures { result ≡ slice_index (M.Memory.bytes m.now) at.0 }

@@ -7,6 +7,9 @@ use memory::memory::Memory;
 use refusal::Refusal;
 use rules::state::{Register, Setup, State};
 
+// A page comes from the hold and an address from the caller, and they are matched at once: a struct of them would only be
+// made and taken apart.
+
 // The register that a page reads at an address.
 fn to_read(page: u8, at: u8) -> Option<Register>
     ensures { result ≡ readable page at }

@@ -43,6 +43,8 @@ pub(crate) fn run<M: Memory>(m: &M, g: &Setup, from: u8, taking: bool) -> Result
     Err(Break::Endless(latest))
 }
 
+// Take and release have a run's start and its number of descriptors from different places, so they stand apart below.
+
 // Frees the descriptors of a run.
 pub(crate) fn clear<M: Memory>(m: &mut M, g: &Setup, from: u8, count: u8)
     ensures { M.Memory.bytes m.new ≡ clear_run g.now (M.Memory.bytes m.old) from count }

@@ -59,6 +59,7 @@ impl From<Break> for Refusal {
 }
 
 /// How far an arrival is stored.
+// No Option for the latest buffer: where `used` is 0 it has length 0, so the one comparison that a byte costs serves both.
 #[derive(Clone, Copy)]
 pub struct Stored {
     /// How many descriptors it has, from CURR on.
@@ -78,6 +79,7 @@ pub struct Stored {
 pub enum Phase {
     Idle,
     /// Fewer than six bytes have come: these, and how many.
+    // An array with a count: a board has fixed memory, and a byte never fails for want of it.
     Address { bytes: [u8; 6], count: u8 },
     Storing(Stored),
     Ignored,

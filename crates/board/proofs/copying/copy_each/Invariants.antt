@@ -5,5 +5,5 @@ use Rattle.board.proofs.copying.copy_each.Given as goal
 
 abbrev pub invariant-loop-j : goal.invariant-loop-j
 invariant-loop-j g l =
-    overlay l.out (l.at + l.j) (span (g.M.Memory.bytes l.m) (l.start + l.j) (l.fill - l.j))
-    ≡ overlay l.initial.out l.at (span (g.M.Memory.bytes l.m) l.start l.fill)
+    overlay l.out (l.at + l.j) (span (g.M.Memory.bytes l.m) (l.e.start + l.j) (l.e.fill - l.j))
+    ≡ overlay l.initial.out l.at (span (g.M.Memory.bytes l.m) l.e.start l.e.fill)

@@ -1,4 +1,5 @@
-use Rattle.std.proofs.Common.{◌≡◌, ◌∙◌, length, ap, inl, arith, rules}
+use Rattle.std.proofs.Common.{◌≡◌, ◌∙◌, length, true, ap, inl, arith, rules}
+use Rattle.rules.specs.Table.{keep_run}
 use Rattle.board.specs.Rounds.{numbers_left}
 use Rattle.board.specs.declared.round.Round.{Round}
 use Rattle.board.proofs.Rounds.{length_numbers, keep_is, keep_step, keep_end}
@@ -19,7 +20,8 @@ loop-i-init g c = search (rules, keep_is)
 pub loop-i-preserved : goal.loop-i-preserved
 loop-i-preserved g c =
     let steps = c.in-Some.ensures.steps in
-    keep_step c.args.g.now c.args.filled c.args.status c.args.used _ _ _ c.in-Some.i _ _ _ _ _ steps.0 steps.1 steps.2
+    let kept = keep_run c.args.g.now (g.M.Memory.bytes c.args.m.now) c.args.curr c.args.filled c.args.status true c.args.used in
+    keep_step c.args.g.now c.args.filled c.args.status c.args.used _ _ kept c.in-Some.i _ _ _ _ _ steps.0 steps.1 steps.2
     c.loop-i.invariant c.keep_one.ensures
 
 pub returns : goal.returns
