@@ -128,14 +128,14 @@ impl<'a> Memory for Words<'a> {
     }
 }
 
-/// The place of an address, where it is below a size.
+/// The place of an address below a size. Any other address is refused.
 fn place_below(at: Address, size: usize) -> Result<usize, Refusal>
     ensures value { result ≡ (if nat_lt at.0 size then Ok at.0 else Err (Outside at.0)) }
 {
     start_below(at, 1, size)
 }
 
-/// The place of an address, where so many bytes from it on all lie below a size.
+/// The place of an address from which so many bytes all lie below a size. Any other address is refused.
 fn start_below(from: Address, count: usize, size: usize) -> Result<usize, Refusal>
     ensures value { result ≡ (if nat_le (from.0 + count) size then Ok from.0 else Err (Outside from.0)) }
 {
@@ -172,6 +172,7 @@ fn set_byte(words: &mut [u16], place: usize, value: u8)
     ensures after { halves words.new ≡ slice_set (halves words.old) place value }
 {
     let [low, high] = words[place / 2].to_le_bytes();
+    // Not `bytes[place % 2] = value`, which was timed at more than twice as long.
     let bytes = if place % 2 == 0 {
         [value, high]
     } else {
