@@ -1,2 +1,1 @@
 pub mod HalfAt
-pub mod HalfCopies

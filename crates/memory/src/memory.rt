@@ -1,4 +1,5 @@
-ghost use Rattle.std.specs.Prelude.{◌≡◌, ℕ, ◌+◌, ◌*◌, ◌<◌, ◌≤◌, List, length, take, drop, nat_le, slice_index, slice_set};
+ghost use Rattle.std.specs.Prelude.{◌≡◌, ℕ, ◌+◌, ◌*◌, ◌<◌, ◌≤◌, List, length, take, drop, Ok, Err, nat_le, nat_lt, if◌then◌else◌, slice_index, slice_set};
+ghost use Rattle.refusal.specs.declared.Refusal.TheVariants.{Outside};
 ghost use Rattle.memory.specs.Halves.{halves};
 ghost use Rattle.memory.specs.Memory.{read_answer, write_answer, slice_answer, slice_copied};
 
@@ -33,6 +34,9 @@ pub trait Memory {
         ensures copied { out.new ≡ slice_copied (bytes self.now) from out.old };
 }
 
+// `Bytes` and `Words` stay two types: the rules have two memories.
+// The clauses `lent` stay: they tie a loan after a call to the one before, and a type speaks of one moment.
+
 /// A memory over a caller's bytes.
 #[derive(Drop)]
 pub struct Bytes<'a> {
@@ -57,12 +61,8 @@ impl<'a> Memory for Bytes<'a> {
     }
 
     fn read(&self, at: Address) -> Result<u8, Refusal> {
-        let place = at.0 as usize;
-        if place < self.cells.len() {
-            Ok(self.cells[place])
-        } else {
-            Err(Refusal::Outside(at.0))
-        }
+        let place = place_below(at, self.size())?;
+        Ok(self.cells[place])
     }
 
     fn write(&mut self, at: Address, value: u8) -> Result<(), Refusal>
@@ -70,24 +70,15 @@ impl<'a> Memory for Bytes<'a> {
         ensures answer { result ≡ write_answer self.old.cells.now at }
         ensures lent { self.new.cells.ghost_name ≡ self.old.cells.ghost_name }
     {
-        let place = at.0 as usize;
-        if place < self.cells.len() {
-            self.cells[place] = value;
-            Ok(())
-        } else {
-            Err(Refusal::Outside(at.0))
-        }
+        let place = place_below(at, self.size())?;
+        self.cells[place] = value;
+        Ok(())
     }
 
     fn read_slice(&self, from: Address, out: &mut [u8]) -> Result<(), Refusal> {
-        let start = from.0 as usize;
-        let count = out.len();
-        if all_below(self.size(), start, count) {
-            out.copy_from_slice(&self.cells[start..start + count]);
-            Ok(())
-        } else {
-            Err(Refusal::Outside(from.0))
-        }
+        let start = start_below(from, out.len(), self.size())?;
+        out.copy_from_slice(&self.cells[start..start + out.len()]);
+        Ok(())
     }
 }
 
@@ -115,11 +106,8 @@ impl<'a> Memory for Words<'a> {
     }
 
     fn read(&self, at: Address) -> Result<u8, Refusal> {
-        if (at.0 as usize) < self.size() {
-            Ok(byte(self.cells, at))
-        } else {
-            Err(Refusal::Outside(at.0))
-        }
+        let place = place_below(at, self.size())?;
+        Ok(byte(self.cells, place))
     }
 
     fn write(&mut self, at: Address, value: u8) -> Result<(), Refusal>
@@ -127,67 +115,74 @@ impl<'a> Memory for Words<'a> {
         ensures answer { result ≡ write_answer (halves self.old.cells.now) at }
         ensures lent { self.new.cells.ghost_name ≡ self.old.cells.ghost_name }
     {
-        if (at.0 as usize) < self.size() {
-            set_byte(self.cells, at, value);
-            Ok(())
-        } else {
-            Err(Refusal::Outside(at.0))
-        }
+        let place = place_below(at, self.size())?;
+        set_byte(self.cells, place, value);
+        Ok(())
     }
 
+    #[tactic(auto, using(crate::proofs::HalfAt::length_halves))]
     fn read_slice(&self, from: Address, out: &mut [u8]) -> Result<(), Refusal> {
-        let start = from.0 as usize;
-        if all_below(self.size(), start, out.len()) {
-            copy_halves(self.cells, start, out);
-            Ok(())
-        } else {
-            Err(Refusal::Outside(from.0))
-        }
+        let start = start_below(from, out.len(), self.size())?;
+        copy_halves(self.cells, start, out);
+        Ok(())
     }
 }
 
-/// Whether a number of bytes from a place on all lie below a size.
-fn all_below(size: usize, start: usize, count: usize) -> bool
-    ensures value { result ≡ nat_le (start + count) size }
+/// The place of an address below a size. Any other address is refused.
+fn place_below(at: Address, size: usize) -> Result<usize, Refusal>
+    ensures value { result ≡ (if nat_lt at.0 size then Ok at.0 else Err (Outside at.0)) }
 {
-    start <= size && count <= size - start
+    start_below(at, 1, size)
+}
+
+/// The place of an address from which so many bytes all lie below a size. Any other address is refused.
+fn start_below(from: Address, count: usize, size: usize) -> Result<usize, Refusal>
+    ensures value { result ≡ (if nat_le (from.0 + count) size then Ok from.0 else Err (Outside from.0)) }
+{
+    let start = from.0 as usize;
+    if start <= size && count <= size - start {
+        Ok(start)
+    } else {
+        Err(Refusal::Outside(from.0))
+    }
 }
 
 /// The number of bytes in words.
+#[tactic(auto, using(crate::proofs::HalfAt::length_halves))]
 fn byte_count(words: &[u16]) -> usize
     ensures value { result ≡ length (halves words.now) }
 {
     2 * words.len()
 }
 
-/// The byte at an address within words.
-fn byte(words: &[u16], at: Address) -> u8
-    requires { at.0 < length (halves words.now) }
-    ensures value { result ≡ slice_index (halves words.now) at.0 }
+/// The byte at a place within words.
+#[tactic(auto, using(crate::proofs::HalfAt::length_halves, crate::proofs::HalfAt::get_or_even, crate::proofs::HalfAt::get_or_odd))]
+fn byte(words: &[u16], place: usize) -> u8
+    requires { place < length (halves words.now) }
+    ensures value { result ≡ slice_index (halves words.now) place }
 {
-    let word = words[(at.0 / 2) as usize];
-    if at.0 % 2 == 0 {
-        (word % 256) as u8
-    } else {
-        (word / 256) as u8
-    }
+    let [low, high] = words[place / 2].to_le_bytes();
+    if place % 2 == 0 { low } else { high }
 }
 
-/// Replaces the byte at an address within words.
-fn set_byte(words: &mut [u16], at: Address, value: u8)
-    requires { at.0 < length (halves words.old) }
-    ensures after { halves words.new ≡ slice_set (halves words.old) at.0 value }
+/// Replaces the byte at a place within words.
+#[tactic(auto, using(crate::proofs::HalfAt::length_halves, crate::proofs::HalfAt::set_low, crate::proofs::HalfAt::set_high))]
+fn set_byte(words: &mut [u16], place: usize, value: u8)
+    requires { place < length (halves words.old) }
+    ensures after { halves words.new ≡ slice_set (halves words.old) place value }
 {
-    let place = (at.0 / 2) as usize;
-    let word = words[place];
-    if at.0 % 2 == 0 {
-        words[place] = word / 256 * 256 + value as u16;
+    let [low, high] = words[place / 2].to_le_bytes();
+    // Not `bytes[place % 2] = value`, which was timed at more than twice as long.
+    let bytes = if place % 2 == 0 {
+        [value, high]
     } else {
-        words[place] = value as u16 * 256 + word % 256;
-    }
+        [low, value]
+    };
+    words[place / 2] = u16::from_le_bytes(bytes);
 }
 
 /// Copies the bytes of words from a place on, as many as the slice holds.
+#[tactic(auto, using(std::proofs::lemmas::List::take_rest, crate::proofs::HalfAt::halves_drop, crate::proofs::HalfAt::drop_odd))]
 fn copy_halves(words: &[u16], start: usize, out: &mut [u8])
     requires { start + length out.old ≤ 2 * length words.now }
     ensures copied { out.new ≡ take (length out.old) (drop start (halves words.now)) }
@@ -195,9 +190,10 @@ fn copy_halves(words: &[u16], start: usize, out: &mut [u8])
     let place = start / 2;
     if start % 2 == 0 {
         copy_words(&words[place..], out);
-    } else if out.len() > 0 {
-        out[0] = (words[place] / 256) as u8;
-        copy_words(&words[place + 1..], &mut out[1..]);
+    } else if let Some((first, rest)) = out.split_first_mut() {
+        let [_, high] = words[place].to_le_bytes();
+        *first = high;
+        copy_words(&words[place + 1..], rest);
     }
 }
 
@@ -207,12 +203,14 @@ fn copy_words(words: &[u16], out: &mut [u8])
     ensures copied { out.new ≡ take (length out.old) (halves words.now) }
 {
     let pairs = out.len() / 2;
-    for i in 0..pairs {
-        let word = words[i];
-        out[2 * i] = (word % 256) as u8;
-        out[2 * i + 1] = (word / 256) as u8;
+    // The bytes by index: of what `chunks_exact_mut` or `as_chunks_mut` lent out, a proof knows no byte afterwards.
+    for (i, word) in words[..pairs].iter().enumerate() {
+        let [low, high] = word.to_le_bytes();
+        out[2 * i] = low;
+        out[2 * i + 1] = high;
     }
     if out.len() % 2 == 1 {
-        out[2 * pairs] = (words[pairs] % 256) as u8;
+        let [low, _] = words[pairs].to_le_bytes();
+        out[2 * pairs] = low;
     }
 }

@@ -15,7 +15,7 @@ fn write_bytes(cells: &mut [u8], at: Address, value: u8) -> Result<(), Refusal>
     memory.write(at, value)
 }
 
-// The same of the halves of the caller's words.
+// The same of the halves of the caller's words. Two functions, since no clause of `Memory` says what the caller's cells hold.
 fn write_words(cells: &mut [u16], at: Address, value: u8) -> Result<(), Refusal>
     ensures after { halves cells.new ≡ slice_set (halves cells.old) at.0 value }
     ensures answer { result ≡ write_answer (halves cells.old) at }

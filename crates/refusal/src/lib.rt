@@ -46,6 +46,7 @@ pub enum Refusal {
     AlreadyMember,
 }
 
+// The rules give each refusal its number and its place. No match has a `_`, so that a new refusal cannot be left out.
 impl Refusal {
     /// The refusal's number.
     pub fn number(self) -> u8

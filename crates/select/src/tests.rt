@@ -5,7 +5,7 @@ use crate::{Hold, Select};
 // The hold ends with its scope.
 fn by_scope(select: &mut Select, number: u8) -> u8
     ensures answer { result ≡ number % 4 }
-    ensures same { select.new.page ≡ select.old.page }
+    ensures same { select.new ≡ select.old }
 {
     let hold = Hold::new(select, number);
     hold.page()
@@ -14,7 +14,7 @@ fn by_scope(select: &mut Select, number: u8) -> u8
 // The hold ends by its own call.
 fn by_end(select: &mut Select, number: u8) -> u8
     ensures answer { result ≡ number % 4 }
-    ensures same { select.new.page ≡ select.old.page }
+    ensures same { select.new ≡ select.old }
 {
     let hold = Hold::new(select, number);
     let page = hold.page();
@@ -25,7 +25,7 @@ fn by_end(select: &mut Select, number: u8) -> u8
 // The hold ends by the library's `drop`.
 fn by_drop(select: &mut Select, number: u8) -> u8
     ensures answer { result ≡ number % 4 }
-    ensures same { select.new.page ≡ select.old.page }
+    ensures same { select.new ≡ select.old }
 {
     let hold = Hold::new(select, number);
     let page = hold.page();
@@ -35,7 +35,7 @@ fn by_drop(select: &mut Select, number: u8) -> u8
 
 // The hold ends by an early return.
 fn by_return(select: &mut Select, number: u8) -> u8
-    ensures same { select.new.page ≡ select.old.page }
+    ensures same { select.new ≡ select.old }
 {
     let hold = Hold::new(select, number);
     if hold.page() == 3 {
@@ -54,7 +54,7 @@ fn even(number: u8) -> Result<u8, u8> {
 
 // The hold ends by `?`.
 fn by_question_mark(select: &mut Select, number: u8) -> Result<u8, u8>
-    ensures same { select.new.page ≡ select.old.page }
+    ensures same { select.new ≡ select.old }
 {
     let hold = Hold::new(select, number);
     let page = even(hold.page())?;
@@ -65,7 +65,7 @@ fn by_question_mark(select: &mut Select, number: u8) -> Result<u8, u8>
 // One hold ends, and another is made on the same record.
 fn by_turns(select: &mut Select, first: u8, second: u8) -> (u8, u8)
     ensures answer { result ≡ (first % 4, second % 4) }
-    ensures same { select.new.page ≡ select.old.page }
+    ensures same { select.new ≡ select.old }
 {
     let shown = by_scope(select, first);
     let hold = Hold::new(select, second);

@@ -17,12 +17,7 @@ fn meets(a: &Buffer, b: &Buffer) -> bool
 fn shares(buffers: &[Buffer], x: &Buffer) -> bool
     ensures { result ≡ shares_a_byte buffers.now x.now }
 {
-    for b in buffers {
-        if meets(b, x) {
-            return true;
-        }
-    }
-    false
+    buffers.iter().any(|b| meets(b, x))
 }
 
 fn whole_pages(size: u32) -> bool

@@ -1,7 +1,6 @@
-use Rattle.std.proofs.Common.{◌*◌}
+use Rattle.std.proofs.Common.{◌≡◌, ℕ, ◌*◌, ◌<◌, get_or}
 use Rattle.memory.specs.Halves.{halves}
-use Rattle.memory.proofs.HalfCopies.{SameBelow}
 use Rattle.memory.proofs.memory.copy_words.Given as goal
 
 abbrev pub invariant-loop-i : goal.invariant-loop-i
-invariant-loop-i l = SameBelow (2 * l.i) l.out (halves l.words)
+invariant-loop-i l = (k : ℕ) → k < 2 * l.i → get_or l.out k 0 ≡ get_or (halves l.words) k 0

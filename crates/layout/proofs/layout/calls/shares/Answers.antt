@@ -1,25 +1,15 @@
-use Rattle.std.proofs.Common.{sym, ◌∙◌, rules}
-use Rattle.std.proofs.lemmas.List.{at_drop_all}
+use Rattle.std.proofs.Common.{◌||◌, refl, ◌∙◌, rules, tests}
+use Rattle.std.proofs.lemmas.Iterator.{YieldsList-from_slice}
+use Rattle.std.proofs.lemmas.Iterator.Search.{any_from_yields_List}
+use Rattle.std.proofs.lemmas.List.Recursion.{same_from_clauses}
+use Rattle.std.specs.List.{list_any}
 use Rattle.layout.specs.declared.buffer.Buffer.{Buffer}
-use Rattle.layout.specs.Buffers.{shares}
-use Rattle.layout.proofs.Sounds.{shares_more}
+use Rattle.layout.specs.Buffers.{meets, shares}
 use Rattle.layout.proofs.layout.calls.shares.Goals as goal
-
-abbrev none : Buffer
-none = record { start = record { 0 = 0 }; length = 0 }
-
-pub returns-then-meets : goal.returns-then-meets
-returns-then-meets c =
-    let m = shares_more c.args.buffers.now c.args.x.now c.loop-b.b-index none c.loop-b-test.true in
-    let e = c.if-meets.ensures in
-    grind rules
-
-pub loop-b-preserved : goal.loop-b-preserved
-loop-b-preserved c =
-    let m = shares_more c.args.buffers.now c.args.x.now c.loop-b.b-index none c.loop-b-test.true in
-    let e = c.if-meets.ensures in
-    search rules
 
 pub returns : goal.returns
 returns c =
-    sym (at_drop_all (λ t. shares t c.args.x.now) c.args.buffers.now c.loop-b.b-index c.loop-b-test.false) ∙ c.loop-b.invariant
+    let bs = c.args.buffers.now in
+    let test = λ (b : Buffer). meets b c.args.x.now in
+    let any = any_from_yields_List test _ _ _ c.any.ensures.ran (YieldsList-from_slice bs cc) (λ b r q k. search (rules, tests)) in
+    any ∙ same_from_clauses (list_any test) (λ l. shares l c.args.x.now) (λ b r. test b || r) refl (λ _ _. refl) (λ _ _. refl) bs
