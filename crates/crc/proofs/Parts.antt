@@ -46,7 +46,7 @@ data_of_eight bs e all = ap (crc_over 0) (eight_elements bs e) ∙ data_by_bytes
 
 pub register_by_bytes : (k r : ℕ) → r < 2 ^ 32
     → crc_bits k r 0
-    ≡ bit_xor (bit_xor (crc_bits k (r / 2 ^ 24 * 2 ^ 24) 0) (crc_bits k (r / 2 ^ 16 % 2 ^ 8 * 2 ^ 16) 0))
+    ≡ bit_xor (bit_xor (crc_bits k (r / 2 ^ 24 % 2 ^ 8 * 2 ^ 24) 0) (crc_bits k (r / 2 ^ 16 % 2 ^ 8 * 2 ^ 16) 0))
     (bit_xor (crc_bits k (r / 2 ^ 8 % 2 ^ 8 * 2 ^ 8) 0) (crc_bits k (r % 2 ^ 8 * 2 ^ 0) 0))
 register_by_bytes k r h =
     ap (λ (n : ℕ). crc_bits k n 0) parts
@@ -54,7 +54,7 @@ register_by_bytes k r h =
     ∙ ap₂ bit_xor (bits_xor k r₃ r₂ 0 0 (omega arith) (omega arith)) (bits_xor k r₁ r₀ 0 0 (omega arith) (omega arith))
   where
     r₃ : ℕ
-    r₃ = r / 2 ^ 24 * 2 ^ 24
+    r₃ = r / 2 ^ 24 % 2 ^ 8 * 2 ^ 24
 
     r₂ : ℕ
     r₂ = r / 2 ^ 16 % 2 ^ 8 * 2 ^ 16
@@ -65,8 +65,8 @@ register_by_bytes k r h =
     r₀ : ℕ
     r₀ = r % 2 ^ 8 * 2 ^ 0
 
-    high : bit_xor r₃ r₂ ≡ r / 2 ^ 24 * 2 ^ 24 + r / 2 ^ 16 % 2 ^ 8 * 2 ^ 16
-    high = xor_shifted (r / 2 ^ 24) 24 (r / 2 ^ 16 % 2 ^ 8 * 2 ^ 16) (omega arith)
+    high : bit_xor r₃ r₂ ≡ r / 2 ^ 24 % 2 ^ 8 * 2 ^ 24 + r / 2 ^ 16 % 2 ^ 8 * 2 ^ 16
+    high = xor_shifted (r / 2 ^ 24 % 2 ^ 8) 24 (r / 2 ^ 16 % 2 ^ 8 * 2 ^ 16) (omega arith)
 
     low : bit_xor r₁ r₀ ≡ r / 2 ^ 8 % 2 ^ 8 * 2 ^ 8 + r % 2 ^ 8 * 2 ^ 0
     low = xor_shifted (r / 2 ^ 8 % 2 ^ 8) 8 (r % 2 ^ 8 * 2 ^ 0) (omega arith)

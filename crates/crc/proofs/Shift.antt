@@ -1,7 +1,6 @@
 -- Zero data shifts a register with room above it, so that a byte's step is a shift and two table entries.
 use Rattle.std.proofs.Common.{◌≡◌, ℕ, zero, suc, ◌+◌, ◌*◌, ◌/◌, ◌%◌, ◌^◌, ◌<◌, sym, ap, ◌∙◌, subst, ap₂, mod-lt, mul_assoc, mul_comm, suc-add, mul-le-mul_left, pow-suc, zero-add, arith, pow_pos}
 use lib.Arith.{lt-one}
-use lib.Pow.{split}
 use lib.Bits.{bit_xor, xor_comm, xor_zero_r, xor_shifted}
 use Rattle.crc.specs.Crc.{crc_bit, crc_bits, crc_byte}
 use Rattle.crc.proofs.Linear.{byte_xor}
@@ -35,7 +34,7 @@ bits_shift (suc k) r h =
     room = omega (arith, h, once, mul-le-mul_left (r * 2) (pow_pos k))
 
 pub byte_by_tables : (r b : ℕ) → r < 2 ^ 32
-    → bit_xor (bit_xor (r * 2 ^ 8 % 2 ^ 32) (crc_byte (r / 2 ^ 24 * 2 ^ 24) 0)) (crc_byte 0 b) ≡ crc_byte r b
+    → bit_xor (bit_xor (r * 2 ^ 8 % 2 ^ 32) (crc_byte (r / 2 ^ 24 % 2 ^ 8 * 2 ^ 24) 0)) (crc_byte 0 b) ≡ crc_byte r b
 unfolding crc_byte
 byte_by_tables r b h =
     ap (λ (n : ℕ). bit_xor n (crc_byte 0 b))
@@ -47,7 +46,7 @@ byte_by_tables r b h =
     ∙ ap (λ (n : ℕ). crc_byte n b) (xor_zero_r r)
   where
     high : ℕ
-    high = r / 2 ^ 24 * 2 ^ 24
+    high = r / 2 ^ 24 % 2 ^ 8 * 2 ^ 24
 
     low : ℕ
     low = r % 2 ^ 24
@@ -55,5 +54,5 @@ byte_by_tables r b h =
     shifted : r * 2 ^ 8 % 2 ^ 32 ≡ r % 2 ^ 24 * 2 ^ 8
     shifted = omega arith
 
-    whole : bit_xor (r / 2 ^ 24 * 2 ^ 24) (r % 2 ^ 24) ≡ r
-    whole = xor_shifted (r / 2 ^ 24) 24 (r % 2 ^ 24) (mod-lt r (pow_pos 24)) ∙ split r 24
+    whole : bit_xor high low ≡ r
+    whole = xor_shifted (r / 2 ^ 24 % 2 ^ 8) 24 (r % 2 ^ 24) (mod-lt r (pow_pos 24)) ∙ omega arith

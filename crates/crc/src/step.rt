@@ -10,7 +10,8 @@ use crate::lookup::{data, register, top};
 pub(crate) fn one(before: u32, value: u8) -> u32
     ensures value { result ≡ crc_byte before value }
 {
-    data(0, value) ^ ((before << 8) ^ top((before >> 24) as u8))
+    let [highest, ..] = before.to_be_bytes();
+    data(0, value) ^ ((before << 8) ^ top(highest))
 }
 
 /// The register after eight more bytes.
@@ -24,8 +25,8 @@ pub(crate) fn eight(before: u32, bytes: &[u8; 8]) -> u32
 fn register_part(before: u32) -> u32
     ensures value { result ≡ crc_bits 64 before 0 }
 {
-    (register(3, (before >> 24) as u8) ^ register(2, ((before >> 16) & 0xFF) as u8))
-        ^ (register(1, ((before >> 8) & 0xFF) as u8) ^ register(0, (before & 0xFF) as u8))
+    let [b3, b2, b1, b0] = before.to_be_bytes();
+    (register(3, b3) ^ register(2, b2)) ^ (register(1, b1) ^ register(0, b0))
 }
 
 /// The register that was 0 after eight bytes.
