@@ -1,5 +1,7 @@
 -- The register after a list of bytes, by the parts of the list and by the parts of the register.
-use Rattle.std.proofs.Common.{◌≡◌, ℕ, suc, ◌+◌, ◌*◌, ◌^◌, ◌<◌, List, [], ◌∷◌, ◌++◌, length, sym, refl, ap, ◌∙◌, arith}
+use Rattle.std.proofs.Common.{◌≡◌, ℕ, zero, suc, ◌+◌, ◌*◌, ◌^◌, ◌<◌, List, [], ◌∷◌, ◌++◌, length, take, drop, sym, refl, ap, ◌∙◌, fold, arith}
+use Rattle.std.specs.Simd.{first_chunks}
+use Rattle.std.proofs.lemmas.List.{take-append-drop, drop-drop}
 use lib.Bits.{bit_xor}
 use Rattle.crc.specs.Crc.{crc_bits, crc_byte, crc_over}
 use Rattle.crc.proofs.Linear.{byte_xor, crc_byte_lt}
@@ -27,3 +29,19 @@ crc_over_xor r s (b ∷ bs) hr hs =
   where
     one_more : 8 + 8 * length bs ≡ 8 * suc (length bs)
     one_more = omega arith
+
+pub crc_over_fold : (r : ℕ) (bs : List ℕ) → crc_over r bs ≡ fold crc_byte r bs
+unfolding crc_over
+crc_over_fold r [] = refl
+crc_over_fold r (b ∷ bs) = crc_over_fold (crc_byte r b) bs
+
+pub crc_over_chunks : (r k : ℕ) (bs : List ℕ)
+    → crc_over r bs ≡ crc_over (fold crc_over r (first_chunks 8 k bs)) (drop (k * 8) bs)
+crc_over_chunks r zero bs = refl
+crc_over_chunks r (suc k) bs =
+    let first = crc_over_append r (take 8 bs) (drop 8 bs) in
+    let whole = take-append-drop 8 bs in
+    let others = crc_over_chunks (crc_over r (take 8 bs)) k (drop 8 bs) in
+    let tail = drop-drop (k * 8) 8 bs in
+    let size : suc k * 8 ≡ 8 + k * 8 = omega arith in
+    cc
