@@ -6,12 +6,16 @@ use Rattle.crc.specs.Crc.{crc_bit, crc_bits, crc_byte}
 use Rattle.crc.proofs.Linear.{byte_xor}
 
 -- past the bits of b the data is zero
-pub bits_then_zeros : (j m r b : ℕ) → b < 2 ^ j → crc_bits (j + m) r b ≡ crc_bits m (crc_bits j r b) 0
+bits_then_zeros : (j m r b : ℕ) → b < 2 ^ j → crc_bits (j + m) r b ≡ crc_bits m (crc_bits j r b) 0
 unfolding crc_bits
 bits_then_zeros zero m r b h = ap₂ (λ (n c : ℕ). crc_bits n r c) (zero-add m) (lt-one h)
 bits_then_zeros (suc j) m r b h =
     ap (λ (n : ℕ). crc_bits n r b) (suc-add j m)
     ∙ bits_then_zeros j m (crc_bit r (b % 2)) (b / 2) (omega (arith, h, pow-suc 2 j))
+
+pub byte_then_zeros : (n r b : ℕ) → b < 256 → crc_bits (8 * n) (crc_byte r b) 0 ≡ crc_bits (8 * suc n) r b
+unfolding crc_byte
+byte_then_zeros n r b h = sym (bits_then_zeros 8 (8 * n) r b h) ∙ ap (λ (m : ℕ). crc_bits m r b) (omega arith)
 
 bit_shift : (r : ℕ) → r < 2 ^ 31 → crc_bit r 0 ≡ r * 2
 bit_shift r h =
