@@ -1,14 +1,11 @@
--- A table whose entries are the values of a function at 0, 1, 2 and on: the two lists are compared where a proof cites `table_entry`.
-use Rattle.std.proofs.Common.{◌≡◌, ℕ, zero, suc, ◌+◌, ◌<◌, List, [], ◌∷◌, get_or, sym, ap, ◌∙◌, le_of_suc-le-suc, not-suc-le-zero, add-zero, add-suc, suc-add, zero-add}
+-- A table of m rows of n entries, where the entry k of the row i is f i k: the two lists are compared where a proof cites `row_entry`.
+use Rattle.std.proofs.Common.{◌≡◌, ℕ, ◌<◌, List, [], map, get_or, ap, ◌∙◌, zero-add}
+use Rattle.std.specs.List.{range_with_len}
+use Rattle.std.proofs.lemmas.List.FromFn.{get_or-map-range_with_len}
 
-abbrev values : (ℕ → ℕ) → ℕ → ℕ → List ℕ
-values f zero i = []
-values f (suc n) i = f i ∷ values f n (suc i)
-
-value_at : (f : ℕ → ℕ) (n i k : ℕ) → k < n → get_or (values f n i) k 0 ≡ f (i + k)
-value_at f zero i k h = absurd (not-suc-le-zero h)
-value_at f (suc n) i zero h = ap f (sym (add-zero i))
-value_at f (suc n) i (suc k) h = value_at f n (suc i) k (le_of_suc-le-suc h) ∙ ap f (suc-add i k ∙ sym (add-suc i k))
-
-pub table_entry : (f : ℕ → ℕ) (n k : ℕ) → k < n → get_or (values f n 0) k 0 ≡ f k
-table_entry f n k h = value_at f n 0 k h ∙ ap f (zero-add k)
+pub row_entry : (f : ℕ → ℕ → ℕ) (m n i k : ℕ) → i < m → k < n
+    → get_or (get_or (map (λ j. map (f j) (range_with_len 0 n)) (range_with_len 0 m)) i []) k 0 ≡ f i k
+row_entry f m n i k h l =
+    ap (λ (row : List ℕ). get_or row k 0)
+    (get_or-map-range_with_len (λ j. map (f j) (range_with_len 0 n)) 0 m i i [] h (zero-add i))
+    ∙ get_or-map-range_with_len (f i) 0 n k k 0 l (zero-add k)

@@ -25,12 +25,8 @@ pub fn byte(register: u32, value: u8) -> u32
 pub fn slice(register: u32, bytes: &[u8]) -> u32
     ensures value { result ≡ crc_over register bytes.now }
 {
-    let mut current = register;
-    let mut rest = bytes;
-    while let Some((eight, tail)) = rest.split_first_chunk::<8>() {
-        current = step::eight(current, eight);
-        rest = tail;
-    }
+    let (eights, rest) = bytes.as_chunks::<8>();
+    let current = eights.iter().fold(register, step::eight);
     each(current, rest)
 }
 
@@ -38,11 +34,9 @@ pub fn slice(register: u32, bytes: &[u8]) -> u32
 fn each(register: u32, bytes: &[u8]) -> u32
     ensures value { result ≡ crc_over register bytes.now }
 {
-    let mut current = register;
-    for value in bytes {
-        current = byte(current, *value);
-    }
-    current
+    bytes
+        .iter()
+        .fold(register, |current, &value| byte(current, value))
 }
 
 /// Whether a frame with this register after its last byte matches.

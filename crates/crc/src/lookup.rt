@@ -1,4 +1,5 @@
-//! What the tables hold, by the definition.
+//! What the tables hold, by the definition. Each table has a function of its own: what they share is one index, and their
+//! contracts differ.
 
 ghost use Rattle.std.specs.Prelude.{◌≡◌, ◌+◌, ◌*◌, ◌^◌, ◌<◌};
 ghost use Rattle.crc.specs.Crc.{crc_bits, crc_byte};
@@ -17,7 +18,7 @@ pub(crate) fn register(place: usize, value: u8) -> u32
     requires row { place < 4 }
     ensures value { result ≡ crc_bits 64 (value * 2 ^ (8 * place)) 0 }
 {
-    REGISTER[place * 256 + value as usize]
+    REGISTER[place][value as usize]
 }
 
 /// The register that was 0 after a data byte and `behind` zero bytes.
@@ -25,5 +26,5 @@ pub(crate) fn data(behind: usize, value: u8) -> u32
     requires row { behind < 8 }
     ensures value { result ≡ crc_bits (8 * (behind + 1)) 0 value }
 {
-    DATA[behind * 256 + value as usize]
+    DATA[behind][value as usize]
 }

@@ -1,2 +1,0 @@
-pub mod Among
-pub mod Times

@@ -9,7 +9,8 @@
 --   Admitted        what an accepted admit leaves: the place of the new entry among those in use is open
 --   Unchanged       what a refused admit leaves
 --   Admits          what admit leaves, by its answer
-use Rattle.std.specs.Prelude.{◌≡◌, ℕ, ◌+◌, Bool, true, false, cond, ◌||◌, List, [], ◌∷◌, length, take, drop, Ok, Err, Result, nat_lt}
+use Rattle.std.specs.Prelude.{◌≡◌, ℕ, ◌+◌, Bool, true, false, cond, List, length, take, drop, Ok, Err, Result, nat_lt}
+use Rattle.std.specs.List.{count_by, list_any}
 use Rattle.std.specs.Str.{bytes_eq}
 use Rattle.refusal.specs.declared.Refusal.{Refusal}
 use Rattle.refusal.specs.declared.Refusal.TheVariants.{SheetFull, AlreadyMember}
@@ -19,19 +20,16 @@ abbrev pub in_use : Sheet → List (List ℕ)
 in_use s = take s.count s.entries.now
 
 abbrev pub among : List ℕ → List (List ℕ) → Bool
-among a [] = false
-among a (e ∷ es) = bytes_eq a e || among a es
+among a es = list_any (bytes_eq a) es
 
 abbrev pub sheet_members : Sheet → List ℕ → Bool
 sheet_members s a = among a (in_use s)
 
 abbrev pub one_if : Bool → ℕ
-one_if true = 1
-one_if false = 0
+one_if b = cond b 1 0
 
 abbrev pub times : List ℕ → List (List ℕ) → ℕ
-times a [] = 0
-times a (e ∷ es) = one_if (bytes_eq a e) + times a es
+times a es = count_by (bytes_eq a) es
 
 abbrev pub admit_answer : Sheet → List ℕ → Result (Unit {0}) Refusal
 admit_answer s a =

@@ -3,7 +3,6 @@
 
 ghost use Rattle.std.specs.Prelude.{◌≡◌, ℕ, Bool, List};
 
-mod address;
 pub mod sheet;
 pub mod station;
 

@@ -1,11 +1,10 @@
-use Rattle.std.proofs.Common.{take, drop}
-use Rattle.std.proofs.lemmas.List.{take-append-drop}
-use Rattle.crc.proofs.Over.{crc_over_append}
+use Rattle.std.proofs.Common.{◌≡◌, ◌/◌, length, rules, fold}
+use Rattle.crc.specs.Crc.{crc_over}
+use Rattle.crc.proofs.Over.{crc_over_chunks}
 use Rattle.crc.proofs.slice.Goals as goal
 
-pub loop-eight-preserved : goal.loop-eight-preserved
-loop-eight-preserved c =
-    let cut = c.in-Some.ensures.cases in
-    let parts = crc_over_append c.loop-eight.current (take 8 c.loop-eight.rest.now) (drop 8 c.loop-eight.rest.now) in
-    let whole = take-append-drop 8 c.loop-eight.rest.now in
-    cc
+pub returns : goal.returns
+returns c =
+    let folded : c.fold-current.result ≡ fold crc_over c.args.register c.as_chunks.result.0.now = search rules in
+    let parts = crc_over_chunks c.args.register (length c.args.bytes.now / 8) c.args.bytes.now in
+    record { value = cc }

@@ -4,7 +4,6 @@ ghost use Rattle.recogniser.specs.Sheet.{sheet_members, admit_answer, accepted, 
 
 use super::Sheet;
 use crate::Recogniser;
-use crate::address::same;
 use refusal::Refusal;
 
 impl<'a> Recogniser for Sheet<'a> {
@@ -15,6 +14,7 @@ impl<'a> Recogniser for Sheet<'a> {
     }
 }
 
+// `lent` stands in the contract of each call: a caller knows of the borrow only what that contract says.
 impl<'a> Sheet<'a> {
     /// A sheet with no entry in use.
     pub fn new(entries: &'a mut [[u8; 6]]) -> Sheet<'a>
@@ -42,6 +42,7 @@ impl<'a> Sheet<'a> {
     }
 
     /// Whether the address is among those in use.
+    // A loop over the entries with their index: a rule of the project.
     fn holds(&self, address: &[u8; 6]) -> bool
         ensures value { result ≡ sheet_members self.now address.now }
     {
@@ -49,7 +50,7 @@ impl<'a> Sheet<'a> {
             if i >= self.count {
                 return false;
             }
-            if same(address, entry) {
+            if address == entry {
                 return true;
             }
         }

@@ -4,7 +4,6 @@ ghost use Rattle.recogniser.specs.Station.{group_index, table_bit, station_membe
 
 use super::Station;
 use crate::Recogniser;
-use crate::address::same;
 
 /// The bit of PROM among the switches.
 const PROM: u32 = 4;
@@ -18,7 +17,7 @@ const BROAD: u32 = 2;
 /// The broadcast address.
 const BROADCAST: [u8; 6] = [0xFF; 6];
 
-/// Whether the bit at `place` is set.
+/// Whether the bit at `place` is set. A mask in place of the shift would be no plainer.
 fn bit(byte: u8, place: u32) -> bool
     requires place { place < 8 }
     ensures value { result ≡ bit byte place }
@@ -39,8 +38,8 @@ impl Recogniser for Station {
 
     fn accepts(&self, address: &[u8; 6]) -> bool {
         if address[0] % 2 == 0 {
-            same(address, &self.address) || bit(self.switches, PROM)
-        } else if same(address, &BROADCAST) {
+            *address == self.address || bit(self.switches, PROM)
+        } else if *address == BROADCAST {
             bit(self.switches, BROAD)
         } else {
             bit(self.switches, GROUP) && in_table(&self.table, address)

@@ -1,4 +1,4 @@
-use Rattle.std.proofs.Common.{ℕ, ◌*◌, ◌%◌, ◌^◌, ◌∙◌, ap₂, arith}
+use Rattle.std.proofs.Common.{◌*◌, ◌%◌, ◌^◌, ◌∙◌, arith}
 use lib.Bits.{bit_xor, xor_comm}
 use Rattle.crc.specs.Crc.{crc_byte}
 use Rattle.crc.proofs.Shift.{byte_by_tables}
@@ -10,6 +10,5 @@ returns c =
     record {
       value =
           xor_comm c.data.result (bit_xor (c.args.before * 2 ^ 8 % 2 ^ 32) c.top.result)
-          ∙ ap₂ (λ (x y : ℕ). bit_xor (bit_xor (c.args.before * 2 ^ 8 % 2 ^ 32) x) y) c.top.ensures.value c.data.ensures.value
-          ∙ byte_by_tables c.args.before c.args.value (omega arith);
+          ∙ simp (c.top.ensures.value, c.data.ensures.value, c.to_be_bytes.ensures) (byte_by_tables c.args.before c.args.value (omega arith));
     }
