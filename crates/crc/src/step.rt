@@ -7,6 +7,7 @@ ghost use Rattle.crc.specs.Crc.{crc_bits, crc_byte, crc_over};
 use crate::lookup::{data, register, top};
 
 /// The register after one more byte.
+#[tactic(auto, using(crate::proofs::Shift::byte_by_tables, std::proofs::lemmas::Nat::xor_comm), unfolding(crate::specs::Crc::crc_byte))]
 pub(crate) fn one(before: u32, value: u8) -> u32
     ensures value { result ≡ crc_byte before value }
 {
@@ -15,6 +16,7 @@ pub(crate) fn one(before: u32, value: u8) -> u32
 }
 
 /// The register after eight more bytes.
+#[tactic(auto, using(crate::proofs::Parts::register_and_data, std::proofs::lemmas::Nat::xor_comm))]
 pub(crate) fn eight(before: u32, bytes: &[u8; 8]) -> u32
     ensures value { result ≡ crc_over before bytes.now }
 {
@@ -23,6 +25,7 @@ pub(crate) fn eight(before: u32, bytes: &[u8; 8]) -> u32
 
 /// The register after eight zero bytes. Its lowest byte is named first, since it needs no shift: with the highest first
 /// a slice took 4 % longer.
+#[tactic(auto, using(crate::proofs::Parts::register_by_bytes))]
 fn register_part(before: u32) -> u32
     ensures value { result ≡ crc_bits 64 before 0 }
 {
