@@ -1,6 +1,4 @@
 mod Causes
 mod Copies
-mod Pokes
-mod ReadsOrZero
 mod Rounds
 mod Scans

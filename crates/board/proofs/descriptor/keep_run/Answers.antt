@@ -1,8 +1,7 @@
-use Rattle.std.proofs.Common.{◌≡◌, ◌∙◌, length, true, ap, inl, arith, rules}
-use Rattle.rules.specs.Table.{keep_run}
+use Rattle.std.proofs.Common.{◌≡◌, ◌∙◌, length, ap, inl, arith, rules}
 use Rattle.board.specs.Rounds.{numbers_left}
 use Rattle.board.specs.declared.round.Round.{Round}
-use Rattle.board.proofs.Rounds.{length_numbers, keep_is, keep_step, keep_end}
+use Rattle.board.proofs.Rounds.{length_numbers, keep_is}
 use Rattle.board.proofs.descriptor.keep_run.Goals as goal
 
 pub loop-i-init-derived : goal.loop-i-init-derived
@@ -16,13 +15,3 @@ loop-i-init-derived g c =
 
 pub loop-i-init : goal.loop-i-init
 loop-i-init g c = search (rules, keep_is)
-
-pub loop-i-preserved : goal.loop-i-preserved
-loop-i-preserved g c =
-    let steps = c.in-Some.ensures.steps in
-    let kept = keep_run c.args.g.now (g.M.Memory.bytes c.args.m.now) c.args.curr c.args.filled c.args.status true c.args.used in
-    keep_step c.args.g.now c.args.filled c.args.status c.args.used _ _ kept c.in-Some.i _ _ _ _ _ steps.0 steps.1 steps.2
-    c.loop-i.invariant c.keep_one.ensures
-
-pub returns : goal.returns
-returns g c = keep_end c.args.g.now c.args.filled c.args.status c.args.used _ _ _ _ c.in-None.ensures.steps.0.0 c.loop-i.invariant

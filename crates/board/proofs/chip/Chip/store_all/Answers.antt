@@ -1,5 +1,4 @@
-use Rattle.std.proofs.Common.{sym, arith, rules}
-use Rattle.std.proofs.lemmas.List.{take_all}
+use Rattle.std.proofs.Common.{sym, arith}
 use Rattle.board.proofs.Scans.{store_all_none, store_all_step}
 use Rattle.board.proofs.chip.Chip.store_all.Goals as goal
 
@@ -9,6 +8,3 @@ loop-value-init g c = sym (store_all_none _ _)
 pub loop-value-preserved : goal.loop-value-preserved
 loop-value-preserved g c =
     store_all_step _ _ _ _ c.args.bytes.now c.loop-value.value-index (omega arith) c.loop-value.invariant c.store_in.ensures
-
-pub returns : goal.returns
-returns g c = search (rules, take_all)
