@@ -1,7 +1,6 @@
 -- Loops over the descriptors of a run, by the list of their numbers.
 --   length_numbers     a run has as many numbers as it says
---   fold_step, _end    a fold over what is left, after a turn and after the last
---   _is                over a run's numbers a fold gives what the rules define
+--   _is                over a run's numbers a fold, or the judgement, gives what the rules define
 use Rattle.std.proofs.Common.{◌≡◌, ℕ, zero, suc, ◌+◌, Bool, true, false, cond, eqb, List, [], ◌∷◌, ◌++◌, length, Ok, Err, Result, sym, refl, ap, ◌∙◌, arith}
 use Rattle.std.proofs.lemmas.List.{length-append}
 use Rattle.std.proofs.lemmas.Bool.{cond-true, cond-false, ne_eqb}
@@ -20,12 +19,6 @@ use Rattle.board.specs.Rounds.{numbers}
 pub length_numbers : (g : Setup) (d k : ℕ) → length (numbers g d k) ≡ k
 length_numbers g d zero = refl
 length_numbers g d (suc k) = ap suc (length_numbers g (next g d) k)
-
-pub fold_step : {B : Type 0} (f : B → ℕ → B) (b b' r : B) (d : ℕ) (ds es : List ℕ) → es ≡ d ∷ ds → fold f b es ≡ r → b' ≡ f b d → fold f b' ds ≡ r
-fold_step f b b' r d ds es e inv p = ap (λ x. fold f x ds) p ∙ sym (ap (fold f b) e) ∙ inv
-
-pub fold_end : {B : Type 0} (f : B → ℕ → B) (b r : B) (es : List ℕ) → es ≡ [] → fold f b es ≡ r → b ≡ r
-fold_end f b r es e inv = sym (ap (fold f b) e) ∙ inv
 
 -- release
 abbrev pub clear_one : Setup → List ℕ → ℕ → List ℕ
@@ -155,13 +148,3 @@ keep_each_is g filled status n m i d (suc k) h =
 pub keep_is : (g : Setup) (filled status : ℕ) (m : List ℕ) (d n : ℕ) →
     keep_each g filled status n m 0 (numbers g d n) ≡ keep_run g m d filled status true n
 keep_is g filled status m d n = keep_each_is g filled status n m 0 d n (omega arith)
-
-pub keep_step : (g : Setup) (filled status n : ℕ) (m m' r : List ℕ) (i i' k d : ℕ) (ds es : List ℕ) → es ≡ d ∷ ds → i ≡ k → i' ≡ k + 1 →
-    keep_each g filled status n m k es ≡ r → m' ≡ keep_one g m d filled status (eqb i 0) (eqb (i + 1) n) → keep_each g filled status n m' i' ds ≡ r
-keep_step g filled status n m m' r i i' k d ds es e a b inv p =
-    (λ j. keep_each g filled status n (p j) (b j) ds)
-    ∙ ap (λ (x : ℕ). keep_each g filled status n (keep_one g m d filled status (eqb x 0) (eqb (x + 1) n)) (k + 1) ds) a
-    ∙ sym (ap (keep_each g filled status n m k) e) ∙ inv
-
-pub keep_end : (g : Setup) (filled status n : ℕ) (m r : List ℕ) (k : ℕ) (es : List ℕ) → es ≡ [] → keep_each g filled status n m k es ≡ r → m ≡ r
-keep_end g filled status n m r k es e inv = sym (ap (keep_each g filled status n m k) e) ∙ inv

@@ -39,6 +39,7 @@ pub(crate) fn place(g: &Setup, d: u8) -> Address
     Address(g.rbegin.start().0 + 8 * d as u32)
 }
 
+#[tactic(auto, unfolding(rules::specs::Table::next))]
 pub(crate) fn next(g: &Setup, d: u8) -> u8
     ensures { result ≡ next_after g.now d }
 {
@@ -46,6 +47,7 @@ pub(crate) fn next(g: &Setup, d: u8) -> u8
     if up < g.count as u16 { up as u8 } else { 0 }
 }
 
+#[tactic(auto, unfolding(rules::specs::Table::descriptor_at))]
 pub(crate) fn descriptor<M: Memory>(m: &M, g: &Setup, d: u8) -> Descriptor
     ensures { result ≡ descriptor_of g.now (M.Memory.bytes m.now) d }
 {
@@ -59,6 +61,7 @@ pub(crate) fn descriptor<M: Memory>(m: &M, g: &Setup, d: u8) -> Descriptor
     }
 }
 
+#[tactic(auto, unfolding(rules::specs::Table::lawful))]
 pub(crate) fn lawful(g: &Setup, e: &Descriptor) -> bool
     ensures { result ≡ is_lawful g.now e.now }
 {
@@ -73,6 +76,7 @@ pub(crate) fn lawful(g: &Setup, e: &Descriptor) -> bool
 }
 
 // Replaces bytes 0, 1, 6 and 7 of a descriptor.
+#[tactic(auto, unfolding(rules::specs::Table::write_at))]
 pub(crate) fn write<M: Memory>(m: &mut M, g: &Setup, d: u8, flags: u8, status: u8, fill: u16)
     ensures { M.Memory.bytes m.new ≡ written g.now (M.Memory.bytes m.old) d flags status fill }
 {

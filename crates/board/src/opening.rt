@@ -7,6 +7,7 @@ use memory::address::{Address, Page};
 use memory::memory::Memory;
 
 // Writes a free descriptor for a buffer: status and fill 0.
+#[tactic(auto, unfolding(rules::specs::Opening::describe_at))]
 fn describe_one<M: Memory>(m: &mut M, rbegin: Page, d: usize, buffer: &Buffer)
     requires { d < 64 }
     ensures { M.Memory.bytes m.new ≡ described_one rbegin.0 (M.Memory.bytes m.old) d buffer.now }

@@ -46,6 +46,7 @@ pub(crate) fn run<M: Memory>(m: &M, g: &Setup, from: u8, taking: bool) -> Result
 // Take and release have a run's start and its number of descriptors from different places, so they stand apart below.
 
 // Frees the descriptors of a run.
+#[tactic(auto, using(crate::proofs::Rounds::clear_is))]
 pub(crate) fn clear<M: Memory>(m: &mut M, g: &Setup, from: u8, count: u8)
     ensures { M.Memory.bytes m.new ≡ clear_run g.now (M.Memory.bytes m.old) from count }
 {
@@ -64,6 +65,7 @@ fn take_one<M: Memory>(m: &mut M, g: &Setup, d: u8)
 }
 
 // Sets TAKEN in the descriptors of a run, and answers the descriptor after it.
+#[tactic(auto, using(crate::proofs::Rounds::take_is, crate::proofs::Rounds::onward_is))]
 pub(crate) fn mark_taken<M: Memory>(m: &mut M, g: &Setup, from: u8, count: u8) -> u8
     ensures after { M.Memory.bytes m.new ≡ take_run g.now (M.Memory.bytes m.old) from count }
     ensures value { result ≡ onward g.now from count }
