@@ -5,7 +5,7 @@ use crate::trial::{Call, MPCNT, OVERRUN, Outcome, RSTAT, WHOLE, on_both, on_byte
 use recogniser::Recogniser;
 use recogniser::sheet::Sheet;
 use recogniser::station::Station;
-use refusal::Refusal;
+use refusal::code;
 
 const OWN: [u8; 6] = [0x02, 0, 0, 0, 0, 0x01];
 
@@ -96,13 +96,13 @@ fn sheet_members(rt: HostRuntime) {
     let mut entries = [OTHER; 2];
     let mut sheet = Sheet::new(&mut entries);
     assert!(rt; !sheet.accepts(&OTHER));
-    assert_eq!(rt; sheet.admit(OWN), Ok(()));
-    assert_eq!(rt; sheet.admit(OWN).map_err(Refusal::number), Err(19));
+    assert_eq!(rt; code(sheet.admit(OWN)), 0);
+    assert_eq!(rt; code(sheet.admit(OWN)), 19);
     assert!(rt; sheet.accepts(&OWN));
     assert!(rt; !sheet.accepts(&OTHER));
-    assert_eq!(rt; sheet.admit(GROUP), Ok(()));
-    assert_eq!(rt; sheet.admit(OTHER).map_err(Refusal::number), Err(18));
-    assert_eq!(rt; sheet.admit(OWN).map_err(Refusal::number), Err(18));
+    assert_eq!(rt; code(sheet.admit(GROUP)), 0);
+    assert_eq!(rt; code(sheet.admit(OTHER)), 18);
+    assert_eq!(rt; code(sheet.admit(OWN)), 18);
     assert!(rt; sheet.accepts(&OWN));
     assert!(rt; sheet.accepts(&GROUP));
     assert!(rt; !sheet.accepts(&OTHER));
@@ -126,12 +126,12 @@ const SHEET_FRAMES: &[(Call, Outcome)] = &[
 fn sheet_frames(rt: HostRuntime) {
     let mut entries = [[0; 6]; 2];
     let mut sheet = Sheet::new(&mut entries);
-    assert_eq!(rt; sheet.admit([0x02; 6]), Ok(()));
+    assert_eq!(rt; code(sheet.admit([0x02; 6])), 0);
     on_bytes(&rt, sheet, SHEET_FRAMES);
     assert_eq!(rt; entries, [[0x02; 6], [0; 6]]);
     let mut entries = [[0; 6]; 2];
     let mut sheet = Sheet::new(&mut entries);
-    assert_eq!(rt; sheet.admit([0x02; 6]), Ok(()));
+    assert_eq!(rt; code(sheet.admit([0x02; 6])), 0);
     on_words(&rt, sheet, SHEET_FRAMES);
     assert_eq!(rt; entries, [[0x02; 6], [0; 6]]);
 }
