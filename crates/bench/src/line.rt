@@ -1,40 +1,29 @@
 //! The calls of the line, each printed with its answer.
 
+use crate::bench::Bench;
 use crate::stop::Stop;
-use board::board::Board;
-use memory::memory::Memory;
-use recogniser::Recogniser;
 use rules::state::LastByte;
 
-pub(crate) fn begin<M: Memory, R: Recogniser>(
-    rt: &impl Print,
-    board: &mut Board<M, R>,
-) -> Result<(), Stop> {
-    board.begin()?;
-    println!(rt; "begin                -> 0")?;
-    Ok(())
-}
-
-/// The same byte comes several times.
-pub(crate) fn bytes<M: Memory, R: Recogniser>(
-    rt: &impl Print,
-    board: &mut Board<M, R>,
-    value: u8,
-    count: u8,
-) -> Result<(), Stop> {
-    for _ in 0..count {
-        board.byte(value)?;
+impl<P: Print> Bench<'_, P> {
+    pub(crate) fn begin(&mut self) -> Result<(), Stop> {
+        self.board.begin()?;
+        println!(self.rt; "begin                -> 0")?;
+        Ok(())
     }
-    println!(rt; "byte {value:02X}h x {count:<9} -> 0")?;
-    Ok(())
-}
 
-/// The last byte was whole.
-pub(crate) fn end<M: Memory, R: Recogniser>(
-    rt: &impl Print,
-    board: &mut Board<M, R>,
-) -> Result<(), Stop> {
-    board.end(LastByte::Whole)?;
-    println!(rt; "end, whole           -> 0")?;
-    Ok(())
+    /// The same byte comes several times.
+    pub(crate) fn bytes(&mut self, value: u8, count: u8) -> Result<(), Stop> {
+        for _ in 0..count {
+            self.board.byte(value)?;
+        }
+        println!(self.rt; "byte {value:02X}h x {count:<9} -> 0")?;
+        Ok(())
+    }
+
+    /// The last byte was whole.
+    pub(crate) fn end(&mut self) -> Result<(), Stop> {
+        self.board.end(LastByte::Whole)?;
+        println!(self.rt; "end, whole           -> 0")?;
+        Ok(())
+    }
 }

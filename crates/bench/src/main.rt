@@ -1,6 +1,7 @@
 //! A bench session from begin to end: frames come from the line, and the host takes and releases them.
 #![tactic(auto)]
 
+mod bench;
 mod host;
 mod line;
 mod registers;

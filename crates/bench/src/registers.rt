@@ -1,11 +1,9 @@
 //! The registers, read and written through a hold.
 
+use crate::bench::Bench;
 use crate::stop::Stop;
-use board::board::Board;
-use memory::memory::Memory;
-use recogniser::Recogniser;
 use refusal::Refusal;
-use select::{Hold, Select};
+use select::Hold;
 
 /// A register: its name, its page, and its address on that page.
 #[derive(Clone, Copy)]
@@ -33,50 +31,33 @@ pub(crate) const INTMASK: Register = Register("INTMASK", 2, 0x1F);
 /// INTMASK as it is written.
 pub(crate) const INTMASK_WRITE: Register = Register("INTMASK", 0, 0x1F);
 
-fn value<M: Memory, R: Recogniser>(
-    board: &mut Board<M, R>,
-    select: &mut Select,
-    register: Register,
-) -> Result<u8, Refusal> {
-    let Register(_, page, at) = register;
-    let hold = Hold::new(select, page);
-    board.read_register(&hold, at)
-}
+impl<P: Print> Bench<'_, P> {
+    fn value(&mut self, register: Register) -> Result<u8, Refusal> {
+        let Register(_, page, at) = register;
+        let hold = Hold::new(&mut self.select, page);
+        self.board.read_register(&hold, at)
+    }
 
-/// Prints the two registers that tell of the latest arrival.
-pub(crate) fn status<M: Memory, R: Recogniser>(
-    rt: &impl Print,
-    board: &mut Board<M, R>,
-    select: &mut Select,
-) -> Result<(), Stop> {
-    let intstat = value(board, select, INTSTAT)?;
-    let rstat = value(board, select, RSTAT)?;
-    println!(rt; "INTSTAT {intstat:02X}h, RSTAT {rstat:02X}h")?;
-    Ok(())
-}
+    /// Prints the two registers that tell of the latest arrival.
+    pub(crate) fn status(&mut self) -> Result<(), Stop> {
+        let intstat = self.value(INTSTAT)?;
+        let rstat = self.value(RSTAT)?;
+        println!(self.rt; "INTSTAT {intstat:02X}h, RSTAT {rstat:02X}h")?;
+        Ok(())
+    }
 
-pub(crate) fn read<M: Memory, R: Recogniser>(
-    rt: &impl Print,
-    board: &mut Board<M, R>,
-    select: &mut Select,
-    register: Register,
-) -> Result<(), Stop> {
-    let Register(name, _, _) = register;
-    let value = value(board, select, register)?;
-    println!(rt; "read {name:<15} -> 0: {value:02X}h")?;
-    Ok(())
-}
+    pub(crate) fn read(&mut self, register: Register) -> Result<(), Stop> {
+        let Register(name, _, _) = register;
+        let value = self.value(register)?;
+        println!(self.rt; "read {name:<15} -> 0: {value:02X}h")?;
+        Ok(())
+    }
 
-pub(crate) fn write<M: Memory, R: Recogniser>(
-    rt: &impl Print,
-    board: &mut Board<M, R>,
-    select: &mut Select,
-    register: Register,
-    value: u8,
-) -> Result<(), Stop> {
-    let Register(name, page, at) = register;
-    let hold = Hold::new(select, page);
-    board.write_register(&hold, at, value)?;
-    println!(rt; "write {name:<10} {value:02X}h -> 0")?;
-    Ok(())
+    pub(crate) fn write(&mut self, register: Register, value: u8) -> Result<(), Stop> {
+        let Register(name, page, at) = register;
+        let hold = Hold::new(&mut self.select, page);
+        self.board.write_register(&hold, at, value)?;
+        println!(self.rt; "write {name:<10} {value:02X}h -> 0")?;
+        Ok(())
+    }
 }

@@ -1,124 +1,97 @@
 //! The session's story.
 
-use crate::host::{cause, layout, open, release, take, take_refused};
-use crate::line::{begin, bytes, end};
+use crate::bench::Bench;
 use crate::registers::{
-    ALICNT, CRCCNT, INTMASK, INTMASK_WRITE, INTSTAT, MPCNT, RBEGIN, RCON, REND, read, status, write,
+    ALICNT, CRCCNT, INTMASK, INTMASK_WRITE, INTSTAT, MPCNT, RBEGIN, RCON, REND,
 };
 use crate::stop::Stop;
-use crate::table::descriptors;
-use board::board::Board;
-use memory::memory::{Bytes, Memory};
-use recogniser::Recogniser;
 use recogniser::station::Station;
-use select::Select;
 
 const BROAD: u8 = 0x04;
 
-fn board_is_opened<M: Memory, R: Recogniser>(
-    rt: &impl Print,
-    board: &mut Board<M, R>,
-    select: &mut Select,
-) -> Result<(), Stop> {
-    println!(rt;
-        "\nThe board is opened with a table of one page and three buffers of four bytes."
-    )?;
-    let layout = layout(rt)?;
-    open(rt, board, &layout, 0x03)?;
-    status(rt, board, select)?;
-    descriptors(rt, board)
-}
+impl<P: Print> Bench<'_, P> {
+    fn board_is_opened(&mut self) -> Result<(), Stop> {
+        println!(self.rt;
+            "\nThe board is opened with a table of one page and three buffers of four bytes."
+        )?;
+        let layout = self.layout()?;
+        self.open(&layout, 0x03)?;
+        self.status()?;
+        self.descriptors()
+    }
 
-fn frame_is_kept<M: Memory, R: Recogniser>(
-    rt: &impl Print,
-    board: &mut Board<M, R>,
-    select: &mut Select,
-) -> Result<(), Stop> {
-    println!(rt; "\nA broadcast frame of eight bytes matches, and is kept in two buffers.")?;
-    begin(rt, board)?;
-    bytes(rt, board, 0xFF, 8)?;
-    end(rt, board)?;
-    status(rt, board, select)?;
-    descriptors(rt, board)
-}
+    fn frame_is_kept(&mut self) -> Result<(), Stop> {
+        println!(self.rt;
+            "\nA broadcast frame of eight bytes matches, and is kept in two buffers."
+        )?;
+        self.begin()?;
+        self.bytes(0xFF, 8)?;
+        self.end()?;
+        self.status()?;
+        self.descriptors()
+    }
 
-fn frame_is_missed<M: Memory, R: Recogniser>(
-    rt: &impl Print,
-    board: &mut Board<M, R>,
-    select: &mut Select,
-) -> Result<(), Stop> {
-    println!(rt; "\nOne buffer is left for a second frame: it is missed at its sixth byte.")?;
-    begin(rt, board)?;
-    bytes(rt, board, 0xFF, 5)?;
-    status(rt, board, select)?;
-    bytes(rt, board, 0xFF, 1)?;
-    status(rt, board, select)?;
-    bytes(rt, board, 0xFF, 2)?;
-    end(rt, board)?;
-    descriptors(rt, board)
-}
+    fn frame_is_missed(&mut self) -> Result<(), Stop> {
+        println!(self.rt;
+            "\nOne buffer is left for a second frame: it is missed at its sixth byte."
+        )?;
+        self.begin()?;
+        self.bytes(0xFF, 5)?;
+        self.status()?;
+        self.bytes(0xFF, 1)?;
+        self.status()?;
+        self.bytes(0xFF, 2)?;
+        self.end()?;
+        self.descriptors()
+    }
 
-fn frame_is_taken<M: Memory, R: Recogniser>(
-    rt: &impl Print,
-    board: &mut Board<M, R>,
-) -> Result<(), Stop> {
-    println!(rt; "\nThe host takes the first frame.")?;
-    take(rt, board)?;
-    descriptors(rt, board)
-}
+    fn frame_is_taken(&mut self) -> Result<(), Stop> {
+        println!(self.rt; "\nThe host takes the first frame.")?;
+        self.take()?;
+        self.descriptors()
+    }
 
-fn frame_is_released_in_time<M: Memory, R: Recogniser>(
-    rt: &impl Print,
-    board: &mut Board<M, R>,
-    select: &mut Select,
-) -> Result<(), Stop> {
-    println!(rt;
-        "\nThe first frame is released after the fifth byte of a third: this is kept in buffers 2 and 0."
-    )?;
-    begin(rt, board)?;
-    bytes(rt, board, 0xFF, 5)?;
-    release(rt, board, 0)?;
-    bytes(rt, board, 0xFF, 3)?;
-    end(rt, board)?;
-    status(rt, board, select)?;
-    descriptors(rt, board)?;
-    take(rt, board)?;
-    descriptors(rt, board)
-}
+    fn frame_is_released_in_time(&mut self) -> Result<(), Stop> {
+        println!(self.rt;
+            "\nThe first frame is released after the fifth byte of a third: this is kept in buffers 2 and 0."
+        )?;
+        self.begin()?;
+        self.bytes(0xFF, 5)?;
+        self.release(0)?;
+        self.bytes(0xFF, 3)?;
+        self.end()?;
+        self.status()?;
+        self.descriptors()?;
+        self.take()?;
+        self.descriptors()
+    }
 
-fn registers_are_read<M: Memory, R: Recogniser>(
-    rt: &impl Print,
-    board: &mut Board<M, R>,
-    select: &mut Select,
-) -> Result<(), Stop> {
-    println!(rt;
-        "\nThe host reads the counters, each of which becomes 0, and what the open has fixed."
-    )?;
-    read(rt, board, select, ALICNT)?;
-    read(rt, board, select, CRCCNT)?;
-    read(rt, board, select, MPCNT)?;
-    read(rt, board, select, MPCNT)?;
-    read(rt, board, select, RBEGIN)?;
-    read(rt, board, select, REND)?;
-    read(rt, board, select, RCON)
-}
+    fn registers_are_read(&mut self) -> Result<(), Stop> {
+        println!(self.rt;
+            "\nThe host reads the counters, each of which becomes 0, and what the open has fixed."
+        )?;
+        self.read(ALICNT)?;
+        self.read(CRCCNT)?;
+        self.read(MPCNT)?;
+        self.read(MPCNT)?;
+        self.read(RBEGIN)?;
+        self.read(REND)?;
+        self.read(RCON)
+    }
 
-fn causes_are_cleared<M: Memory, R: Recogniser>(
-    rt: &impl Print,
-    board: &mut Board<M, R>,
-    select: &mut Select,
-) -> Result<(), Stop> {
-    println!(rt; "\nThe host sets INTMASK, and asks for the cause until none is left.")?;
-    cause(rt, board)?;
-    write(rt, board, select, INTMASK_WRITE, 0x35)?;
-    read(rt, board, select, INTMASK)?;
-    cause(rt, board)?;
-    write(rt, board, select, INTSTAT, 0x01)?;
-    read(rt, board, select, INTSTAT)?;
-    cause(rt, board)?;
-    write(rt, board, select, INTSTAT, 0x10)?;
-    read(rt, board, select, INTSTAT)?;
-    cause(rt, board)
+    fn causes_are_cleared(&mut self) -> Result<(), Stop> {
+        println!(self.rt; "\nThe host sets INTMASK, and asks for the cause until none is left.")?;
+        self.cause()?;
+        self.write(INTMASK_WRITE, 0x35)?;
+        self.read(INTMASK)?;
+        self.cause()?;
+        self.write(INTSTAT, 0x01)?;
+        self.read(INTSTAT)?;
+        self.cause()?;
+        self.write(INTSTAT, 0x10)?;
+        self.read(INTSTAT)?;
+        self.cause()
+    }
 }
 
 /// The session, on a board of 512 bytes with a station that accepts broadcast frames.
@@ -130,15 +103,14 @@ pub(crate) fn run(rt: &impl Print) -> Result<(), Stop> {
         switches: BROAD,
         table: [0; 8],
     };
-    let mut board = Board::new(Bytes::new(&mut cells), station);
-    let mut select = Select::new();
-    board_is_opened(rt, &mut board, &mut select)?;
-    frame_is_kept(rt, &mut board, &mut select)?;
-    frame_is_missed(rt, &mut board, &mut select)?;
-    frame_is_taken(rt, &mut board)?;
-    frame_is_released_in_time(rt, &mut board, &mut select)?;
-    registers_are_read(rt, &mut board, &mut select)?;
-    causes_are_cleared(rt, &mut board, &mut select)?;
+    let mut bench = Bench::new(rt, &mut cells, station);
+    bench.board_is_opened()?;
+    bench.frame_is_kept()?;
+    bench.frame_is_missed()?;
+    bench.frame_is_taken()?;
+    bench.frame_is_released_in_time()?;
+    bench.registers_are_read()?;
+    bench.causes_are_cleared()?;
     println!(rt; "\nNo frame waits any more.")?;
-    take_refused(rt, &mut board)
+    bench.take_refused()
 }

@@ -4,8 +4,8 @@ use std::io;
 /// Why a session stops before its end.
 #[derive(Debug, Drop)]
 pub(crate) enum Stop {
-    /// A call was refused, with this number and place.
-    Refused { number: u8, place: u32 },
+    /// A call was refused.
+    Refused(Refusal),
     /// A call was accepted that the session expected to be refused.
     Accepted,
     /// A line could not be printed.
@@ -14,10 +14,7 @@ pub(crate) enum Stop {
 
 impl From<Refusal> for Stop {
     fn from(refusal: Refusal) -> Stop {
-        Stop::Refused {
-            number: refusal.number(),
-            place: refusal.place(),
-        }
+        Stop::Refused(refusal)
     }
 }
 

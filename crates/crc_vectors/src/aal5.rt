@@ -3,7 +3,7 @@
 //! AAL5 sends the highest bit of a byte first, so each byte goes in with its bits in reverse
 //! order; its CRC is the complement of the register.
 
-use crate::report::{Expected, heading};
+use crate::report::{Base, Expected, heading};
 use crate::ways::Ways;
 
 /// The bytes from 1 to 40.
@@ -31,7 +31,8 @@ fn compare_packet(
         value,
         source: "ITU-T I.363.5, example",
     };
-    Ok(example.compare(rt, Ways::over(packet.as_slice()).complement(), true)?)
+    let ways = Ways::over(packet.as_slice()).map(|register| !register);
+    Ok(example.compare(rt, Base::Hexadecimal, ways, true)?)
 }
 
 /// Compares every example.

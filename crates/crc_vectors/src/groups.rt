@@ -1,6 +1,6 @@
 //! The group indexes of well-known addresses.
 
-use crate::report::{Expected, heading};
+use crate::report::{Base, Expected, heading};
 use crate::ways::Ways;
 use recogniser::Recogniser;
 use recogniser::station::Station;
@@ -66,6 +66,11 @@ const GROUPS: [Group; 6] = [
     },
 ];
 
+/// The group index of an address, by each way: the top six bits of the register.
+fn indexes(address: &[u8; 6]) -> Ways {
+    Ways::over(address).map(|register| register >> 26)
+}
+
 /// Whether a station with GROUP and this table accepts the address.
 fn accepts(table: [u8; 8], address: &[u8; 6]) -> bool {
     let station = Station {
@@ -85,10 +90,10 @@ impl Group {
 
     /// Compares the index.
     fn compare(&self, rt: &HostRuntime) -> anyhow::Result<bool> {
-        let ways = Ways::over(&self.address).top_six();
+        let passed = self.decided_by_its_bit();
         Ok(
             self.index
-                .compare_index(rt, ways, self.decided_by_its_bit())?,
+                .compare(rt, Base::Decimal, indexes(&self.address), passed)?,
         )
     }
 }
@@ -100,7 +105,7 @@ fn compare_broadcast(rt: &HostRuntime) -> anyhow::Result<bool> {
         value: 63,
         source: "broadcast, Linux drivers dm9000 and tulip",
     };
-    Ok(index.compare_index(rt, Ways::over(&[0xFF; 6]).top_six(), true)?)
+    Ok(index.compare(rt, Base::Decimal, indexes(&[0xFF; 6]), true)?)
 }
 
 /// Compares every index.

@@ -1,7 +1,7 @@
 //! Messages with their CRC-32, and frames made of a message and its FCS.
 
-use crate::conventions::RESIDUE;
-use crate::report::{Expected, heading};
+use crate::conventions::{RESIDUE, converted};
+use crate::report::{Base, Expected, heading};
 use crate::ways::Ways;
 use std::alloc::{AllocError, Global};
 
@@ -23,7 +23,8 @@ impl Message {
 
     /// Compares the CRC-32.
     fn compare_fcs(&self, rt: &HostRuntime) -> anyhow::Result<bool> {
-        Ok(self.fcs.compare(rt, Ways::over(self.bytes).fcs(), true)?)
+        let ways = Ways::over(self.bytes).map(converted);
+        Ok(self.fcs.compare(rt, Base::Hexadecimal, ways, true)?)
     }
 
     /// Compares the register after the message and its FCS. That frame matches, and does not
@@ -39,7 +40,7 @@ impl Message {
             value: RESIDUE,
             source: "CRC catalogue, CRC-32/ISO-HDLC, residue",
         };
-        Ok(residue.compare(rt, ways, matched && refused)?)
+        Ok(residue.compare(rt, Base::Hexadecimal, ways, matched && refused)?)
     }
 }
 

@@ -2,7 +2,7 @@
 
 use crate::conventions::converted;
 use crate::reflected;
-use crate::report::{Expected, heading};
+use crate::report::{Base, Expected, heading};
 use crate::ways::{Ways, byte_by_byte};
 use std::alloc::{AllocError, Global};
 
@@ -91,7 +91,7 @@ fn compare_lengths(heap: Global) -> Result<Tally, AllocError> {
         differing: 0,
         checksums: Vec::new(heap),
     };
-    for length in 0..LONGEST + 1 {
+    for length in 0..=LONGEST {
         let message = generator.message(heap, length)?;
         tally.compare_message(message.as_slice(), generator.next())?;
     }
@@ -109,6 +109,6 @@ pub(crate) fn compare(rt: &HostRuntime) -> anyhow::Result<bool> {
         "pseudo-random messages of 0 to {LONGEST} bytes: {compared} registers compared, {differing} differ"
     )?;
     heading(rt, "CRC-32 of their CRC-32s")?;
-    let ways = Ways::over(checksums.as_slice()).fcs();
-    Ok(DIGEST.compare(rt, ways, differing == 0)?)
+    let ways = Ways::over(checksums.as_slice()).map(converted);
+    Ok(DIGEST.compare(rt, Base::Hexadecimal, ways, differing == 0)?)
 }

@@ -18,9 +18,7 @@ fn after(register: u32, value: u8) -> u32 {
 
 /// The CRC-32 of the bytes.
 pub(crate) fn checksum(bytes: &[u8]) -> u32 {
-    let mut current = 0xFFFF_FFFF;
-    for value in bytes {
-        current = after(current, *value);
-    }
-    !current
+    !bytes
+        .iter()
+        .fold(0xFFFF_FFFF, |register, value| after(register, *value))
 }

@@ -1,7 +1,7 @@
 //! The printed lines.
 
 use crate::ways::Ways;
-use std::io;
+use std::{fmt, io};
 
 /// The number that is expected of a vector.
 #[derive(Clone, Copy)]
@@ -19,37 +19,34 @@ pub(crate) fn heading(rt: &HostRuntime, title: &str) -> io::Result<()> {
     println!(rt; "{title:<26} expected slice    byte     second")
 }
 
-/// The word for the end of a comparison.
-fn verdict(agreed: bool) -> &'static str {
-    if agreed { "agree" } else { "DIFFER" }
+/// The base of the printed numbers.
+#[derive(Clone, Copy)]
+pub(crate) enum Base {
+    Decimal,
+    Hexadecimal,
+}
+
+/// A number, printed in eight columns.
+#[derive(Clone, Copy)]
+struct Number(Base, u32);
+
+impl fmt::Display for Number {
+    fn fmt<W: fmt::Write>(&self, f: &mut fmt::Formatter<W>) -> fmt::Result {
+        let Number(base, value) = self;
+        match base {
+            Base::Decimal => write!(f, "{value:<8}"),
+            Base::Hexadecimal => write!(f, "{value:08X}"),
+        }
+    }
 }
 
 impl Expected<'_> {
-    /// Prints the number and what each way gives, in hexadecimal, and whether they agree and
-    /// the vector passed its other tests. Answers that.
-    pub(crate) fn compare(&self, rt: &HostRuntime, ways: Ways, passed: bool) -> io::Result<bool> {
-        let Expected {
-            name,
-            value,
-            source,
-        } = *self;
-        let Ways {
-            slice,
-            byte,
-            second,
-        } = ways;
-        let agreed = ways.all(value) && passed;
-        let shown = verdict(agreed);
-        println!(rt;
-            "{name:<26} {value:08X} {slice:08X} {byte:08X} {second:08X} {shown:<6} {source}"
-        )?;
-        Ok(agreed)
-    }
-
-    /// The same, in decimal.
-    pub(crate) fn compare_index(
+    /// Prints the number and what each way gives, and whether they agree and the vector passed
+    /// its other tests. Answers that.
+    pub(crate) fn compare(
         &self,
         rt: &HostRuntime,
+        base: Base,
         ways: Ways,
         passed: bool,
     ) -> io::Result<bool> {
@@ -58,14 +55,12 @@ impl Expected<'_> {
             value,
             source,
         } = *self;
-        let Ways {
-            slice,
-            byte,
-            second,
-        } = ways;
         let agreed = ways.all(value) && passed;
-        let shown = verdict(agreed);
-        println!(rt; "{name:<26} {value:<8} {slice:<8} {byte:<8} {second:<8} {shown:<6} {source}")?;
+        let verdict = if agreed { "agree" } else { "DIFFER" };
+        let [expected, slice, byte, second] = [value, ways.slice, ways.byte, ways.second].map(
+            |number| Number(base, number),
+        );
+        println!(rt; "{name:<26} {expected} {slice} {byte} {second} {verdict:<6} {source}")?;
         Ok(agreed)
     }
 }

@@ -16,11 +16,9 @@ pub(crate) struct Ways {
 
 /// The register after the bytes, by `crc::byte`.
 pub(crate) fn byte_by_byte(bytes: &[u8]) -> u32 {
-    let mut register = crc::START;
-    for value in bytes {
-        register = crc::byte(register, *value);
-    }
-    register
+    bytes
+        .iter()
+        .fold(crc::START, |register, value| crc::byte(register, *value))
 }
 
 impl Ways {
@@ -33,39 +31,14 @@ impl Ways {
         }
     }
 
-    /// The FCS of each register.
-    pub(crate) fn fcs(self) -> Ways {
+    /// What a function gives for each number.
+    pub(crate) fn map<F: Fn(u32) -> u32>(self, f: F) -> Ways
+        requires { F.IsAlwaysCallable f }
+    {
         Ways {
-            slice: converted(self.slice),
-            byte: converted(self.byte),
-            second: converted(self.second),
-        }
-    }
-
-    /// The top six bits of each register.
-    pub(crate) fn top_six(self) -> Ways {
-        Ways {
-            slice: self.slice >> 26,
-            byte: self.byte >> 26,
-            second: self.second >> 26,
-        }
-    }
-
-    /// The lowest six bits of each register, in reverse order.
-    pub(crate) fn low_six_reversed(self) -> Ways {
-        Ways {
-            slice: self.slice.reverse_bits() >> 26,
-            byte: self.byte.reverse_bits() >> 26,
-            second: self.second.reverse_bits() >> 26,
-        }
-    }
-
-    /// The complement of each register.
-    pub(crate) fn complement(self) -> Ways {
-        Ways {
-            slice: !self.slice,
-            byte: !self.byte,
-            second: !self.second,
+            slice: f(self.slice),
+            byte: f(self.byte),
+            second: f(self.second),
         }
     }
 

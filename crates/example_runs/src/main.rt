@@ -5,7 +5,7 @@ mod play;
 mod step;
 mod table;
 
-use crate::play::{Difference, additions, on_bytes, on_words, six};
+use crate::play::{Difference, additions, six};
 use crate::step::Example;
 use crate::table::EXAMPLES;
 use anyhow::anyhow;
@@ -14,29 +14,21 @@ use std::io;
 // Prints what came of an example. Answers whether it is as the rules say.
 fn say(rt: &impl Print, name: &str, on: &str, played: Result<(), Difference>) -> io::Result<bool> {
     match played {
-        Ok(()) => {
-            println!(rt; "{name}{on}: as the rules say")?;
-            Ok(true)
-        }
-        Err(difference) => {
-            let step = difference.step;
-            let answer = difference.answer;
-            let expected = difference.expected;
-            println!(rt; "{name}{on}: step {step} answers {answer:?}, and not {expected:?}")?;
-            Ok(false)
-        }
+        Ok(()) => println!(rt; "{name}{on}: as the rules say")?,
+        Err(difference) => println!(rt; "{name}{on}: {difference}")?,
     }
+    Ok(played.is_ok())
 }
 
 // Plays an example, a run on each memory.
 fn show(rt: &impl Print, name: &str, example: Example) -> io::Result<bool> {
     match example {
-        Example::Run(rcon, steps) => {
-            let bytes = say(rt, name, ", on bytes", on_bytes(rcon, steps))?;
-            let words = say(rt, name, ", on words", on_words(rcon, steps))?;
+        Example::Run(run) => {
+            let bytes = say(rt, name, ", on bytes", run.on_bytes())?;
+            let words = say(rt, name, ", on words", run.on_words())?;
             Ok(bytes && words)
         }
-        Example::Six(bytes, answer) => say(rt, name, "", six(bytes, answer)),
+        Example::Six(bytes, outcome) => say(rt, name, "", six(bytes, outcome)),
         Example::Additions(buffers) => say(rt, name, "", additions(buffers)),
     }
 }
@@ -45,9 +37,7 @@ fn show(rt: &impl Print, name: &str, example: Example) -> io::Result<bool> {
 fn run(rt: &impl Print) -> anyhow::Result<()> {
     let mut good = true;
     for (name, example) in EXAMPLES {
-        if !show(rt, name, example)? {
-            good = false;
-        }
+        good &= show(rt, name, example)?;
     }
     if good {
         Ok(())

@@ -1,6 +1,7 @@
+use refusal::Refusal;
 use rules::state::LastByte;
 
-/// A call of a run.
+/// A call of a run. The table of examples lists calls with their answers, so they are values.
 #[derive(Clone, Copy)]
 pub(crate) enum Call {
     Begin,
@@ -14,12 +15,10 @@ pub(crate) enum Call {
     Read(u8),
 }
 
-/// What a call answers.
+/// What an accepted call answers.
 #[derive(Clone, Copy, PartialEq, Eq, Debug)]
 pub(crate) enum Answer {
     Done,
-    /// A refusal's number and place.
-    Refused(u8, u32),
     /// First descriptor, descriptors, length and status of a frame of bytes of FFh.
     Took(u8, u8, u32, u8),
     /// Take was accepted, but the caller's buffer does not have the frame in front, and 0 in the rest.
@@ -27,7 +26,27 @@ pub(crate) enum Answer {
     /// What a register holds.
     Value(u8),
     /// The group index of an address, and whether its bytes match as a frame.
-    Address(u8, bool),
+    Address(Option<u8>, bool),
+}
+
+/// A refusal's number and place.
+#[derive(Clone, Copy, PartialEq, Eq, Debug)]
+pub(crate) struct Refused(pub u8, pub u32);
+
+impl From<Refusal> for Refused {
+    fn from(refusal: Refusal) -> Refused {
+        Refused(refusal.number(), refusal.place())
+    }
+}
+
+/// What a call answers.
+pub(crate) type Outcome = Result<Answer, Refused>;
+
+/// A run of a board that is opened with RCON: calls, each with what it answers.
+#[derive(Clone, Copy)]
+pub(crate) struct Run {
+    pub rcon: u8,
+    pub steps: &'static [(Call, Outcome)],
 }
 
 /// A buffer to add, by its start and length, and what add answers.
@@ -35,16 +54,15 @@ pub(crate) enum Answer {
 pub(crate) struct Addition {
     pub start: u32,
     pub length: u16,
-    pub answer: Answer,
+    pub outcome: Outcome,
 }
 
 /// What an example does, and what must come of it.
 #[derive(Clone, Copy)]
 pub(crate) enum Example {
-    /// A board is opened with RCON, and goes through calls, each with its answer.
-    Run(u8, &'static [(Call, Answer)]),
+    Run(Run),
     /// What six bytes are as an address and as a frame.
-    Six([u8; 6], Answer),
+    Six([u8; 6], Outcome),
     /// Buffers are added to the layout of the bench.
     Additions(&'static [Addition]),
 }

@@ -3,7 +3,7 @@ use layout::layout::Layout;
 use memory::address::{Address, Page};
 use refusal::{Refusal, code};
 
-/// A call on a layout.
+/// A call on a layout. The list has calls with their answers, so they are values.
 #[derive(Clone, Copy)]
 enum Call {
     /// A size, RBEGIN and REND.
@@ -14,7 +14,8 @@ enum Call {
     AddEach(u16, u16),
 }
 
-// Each call with the number that it answers, and how many buffers the layout has then.
+// Each call with the number that it answers, and how many buffers the layout has then. The numbers are the rules', 0 for a
+// call that is accepted, so they stand as numbers.
 const STEPS: &[(Call, u8, usize)] = &[
     // a blank layout has no page
     (Add(256, 4), 3, 0),
@@ -68,8 +69,8 @@ fn play(layout: &mut Layout, call: Call) -> Result<(), Refusal> {
         Table(size, rbegin, rend) => layout.table(size, Page(rbegin), Page(rend)),
         Add(start, length) => layout.add(Address(start), length),
         AddEach(first, count) => {
-            for i in 0..count {
-                layout.add(Address(first as u32 + i as u32), 1)?;
+            for start in (first as u32..).take(count as usize) {
+                layout.add(Address(start), 1)?;
             }
             Ok(())
         }

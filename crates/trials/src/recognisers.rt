@@ -1,7 +1,7 @@
 use crate::trial::Answer::*;
 use crate::trial::Call::*;
 use crate::trial::Plan::*;
-use crate::trial::{Answer, Call, MPCNT, OVERRUN, RSTAT, WHOLE, on_both, on_bytes, on_words};
+use crate::trial::{Call, MPCNT, OVERRUN, Outcome, RSTAT, WHOLE, on_both, on_bytes, on_words};
 use recogniser::Recogniser;
 use recogniser::sheet::Sheet;
 use recogniser::station::Station;
@@ -64,17 +64,17 @@ fn station_members(rt: HostRuntime) {
 }
 
 // A frame of six bytes that goes by the group table, and matches.
-const GROUP_FRAME: &[(Call, Answer)] = &[
-    (Open(Three, 3), Accepted),
-    (Begin, Accepted),
-    (Bytes(0xFF, 2), Accepted),
-    (Bytes(0x00, 2), Accepted),
-    (Bytes(0xFF, 2), Accepted),
-    (Line(WHOLE), Accepted),
-    (Take(12), Frame(0, 2, 6, 0x21)),
+const GROUP_FRAME: &[(Call, Outcome)] = &[
+    (Open(Three, 3), Ok(Accepted)),
+    (Begin, Ok(Accepted)),
+    (Bytes(0xFF, 2), Ok(Accepted)),
+    (Bytes(0x00, 2), Ok(Accepted)),
+    (Bytes(0xFF, 2), Ok(Accepted)),
+    (Line(WHOLE), Ok(Accepted)),
+    (Take(12), Ok(Frame(0, 2, 6, 0x21))),
     (
         Buffer,
-        Holds([0xFF, 0xFF, 0x00, 0x00, 0xFF, 0xFF, 7, 7, 7, 7, 7, 7]),
+        Ok(Holds([0xFF, 0xFF, 0x00, 0x00, 0xFF, 0xFF, 7, 7, 7, 7, 7, 7])),
     ),
 ];
 
@@ -109,17 +109,17 @@ fn sheet_members(rt: HostRuntime) {
 }
 
 // The sheet has six bytes of 02h: they are recognised, and six bytes of 04h are not.
-const SHEET_FRAMES: &[(Call, Answer)] = &[
-    (Open(Three, 3), Accepted),
-    (Begin, Accepted),
-    (Bytes(0x04, 6), Accepted),
-    (Line(OVERRUN), Accepted),
-    (RSTAT, Value(0x00)),
-    (Begin, Accepted),
-    (Bytes(0x02, 6), Accepted),
-    (Line(OVERRUN), Accepted),
-    (RSTAT, Value(0x08)),
-    (MPCNT, Value(1)),
+const SHEET_FRAMES: &[(Call, Outcome)] = &[
+    (Open(Three, 3), Ok(Accepted)),
+    (Begin, Ok(Accepted)),
+    (Bytes(0x04, 6), Ok(Accepted)),
+    (Line(OVERRUN), Ok(Accepted)),
+    (RSTAT, Ok(Value(0x00))),
+    (Begin, Ok(Accepted)),
+    (Bytes(0x02, 6), Ok(Accepted)),
+    (Line(OVERRUN), Ok(Accepted)),
+    (RSTAT, Ok(Value(0x08))),
+    (MPCNT, Ok(Value(1))),
 ];
 
 #[test]

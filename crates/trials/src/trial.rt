@@ -7,6 +7,7 @@ use recogniser::station::Station;
 use refusal::Refusal;
 use rules::state::{Event, Fault, LastByte};
 use select::{Hold, Select};
+use std::array;
 use std::process::Abort;
 
 pub(crate) const INTSTAT: Call = Call::Read(0, 0x17);
@@ -47,7 +48,8 @@ pub(crate) enum Plan {
     Larger,
 }
 
-/// A call on a board, on its select record, or on the caller's buffer.
+/// A call on a board, on its select record, or on the caller's buffer. The lists have calls with their answers, so they
+/// are values.
 #[derive(Clone, Copy)]
 pub(crate) enum Call {
     Open(Plan, u8),
@@ -77,12 +79,10 @@ pub(crate) enum Call {
     Buffer,
 }
 
-/// What a call answers.
+/// What an accepted call answers.
 #[derive(Clone, Copy, PartialEq, Debug)]
 pub(crate) enum Answer {
     Accepted,
-    /// A refusal's number and place.
-    Refused(u8, u32),
     Value(u8),
     /// The four numbers of a frame.
     Frame(u8, u8, u32, u8),
@@ -90,6 +90,19 @@ pub(crate) enum Answer {
     Described([u8; 8]),
     Holds([u8; 12]),
 }
+
+/// A refusal's number and place. The same as in `example_runs`: a library for it alone is no plainer.
+#[derive(Clone, Copy, PartialEq, Debug)]
+pub(crate) struct Refused(pub u8, pub u32);
+
+impl From<Refusal> for Refused {
+    fn from(refusal: Refusal) -> Refused {
+        Refused(refusal.number(), refusal.place())
+    }
+}
+
+/// What a call answers.
+pub(crate) type Outcome = Result<Answer, Refused>;
 
 fn three_buffers(layout: &mut Layout, size: u32) -> Result<(), Refusal> {
     layout.table(size, Page(0), Page(1))?;
@@ -112,137 +125,133 @@ fn layout(plan: Plan) -> Result<Layout, Refusal> {
     Ok(layout)
 }
 
-fn bytes<M: Memory, R: Recogniser>(
-    board: &mut Board<M, R>,
-    value: u8,
-    count: u16,
-) -> Result<(), Refusal> {
-    for _ in 0..count {
-        board.byte(value)?;
-    }
-    Ok(())
+/// What the calls are made on: a board, its select record and the caller's buffer.
+#[derive(Drop)]
+struct Bench<M, R> {
+    board: Board<M, R>,
+    select: Select,
+    buffer: [u8; 12],
 }
 
-fn line<M: Memory, R: Recogniser>(board: &mut Board<M, R>, event: Event) -> Result<(), Refusal> {
-    match event {
-        Event::Byte(value) => board.byte(value),
-        Event::End(last) => board.end(last),
-        Event::Abort(fault) => board.abort(fault),
-    }
-}
-
-fn arrivals<M: Memory, R: Recogniser>(
-    board: &mut Board<M, R>,
-    count: u16,
-    length: u16,
-    close: Event,
-) -> Result<(), Refusal> {
-    for _ in 0..count {
-        board.begin()?;
-        bytes(board, 0xFF, length)?;
-        line(board, close)?;
-    }
-    Ok(())
-}
-
-fn descriptor<M: Memory, R: Recogniser>(
-    board: &Board<M, R>,
-    number: u8,
-) -> Result<[u8; 8], Refusal> {
-    let mut bytes = [0; 8];
-    for i in 0..8u32 {
-        bytes[i as usize] = board.peek(Address(8 * number as u32 + i))?;
-    }
-    Ok(bytes)
-}
-
-fn play<M: Memory, R: Recogniser>(
-    board: &mut Board<M, R>,
-    select: &mut Select,
-    buffer: &mut [u8; 12],
-    call: Call,
-) -> Result<Answer, Refusal> {
-    match call {
-        Call::Open(plan, rcon) => {
-            let layout = layout(plan)?;
-            board.open(&layout, rcon)?;
+impl<M: Memory, R: Recogniser> Bench<M, R> {
+    fn new(memory: M, recogniser: R) -> Bench<M, R> {
+        Bench {
+            board: Board::new(memory, recogniser),
+            select: Select::new(),
+            buffer: [7; 12],
         }
-        Call::Begin => board.begin()?,
-        Call::Bytes(value, count) => bytes(board, value, count)?,
-        Call::Line(event) => line(board, event)?,
-        Call::Arrivals(count, length, close) => arrivals(board, count, length, close)?,
-        Call::Take(room) => {
-            let (first, descriptors, length, status) = board.take(&mut buffer[0..room.min(12)])?;
-            return Ok(Answer::Frame(first, descriptors, length, status));
-        }
-        Call::Release(descriptor) => board.release(descriptor)?,
-        Call::Peek(at) => return Ok(Answer::Value(board.peek(Address(at))?)),
-        Call::Poke(at, value) => board.poke(Address(at), value)?,
-        Call::Read(page, at) => {
-            let hold = Hold::new(select, page);
-            return Ok(Answer::Value(board.read_register(&hold, at)?));
-        }
-        Call::Write(page, at, value) => {
-            let hold = Hold::new(select, page);
-            board.write_register(&hold, at, value)?;
-        }
-        Call::Cause => return Ok(Answer::Bit(board.cause()?)),
-        Call::Select(page) => select.select(page),
-        Call::Selected => return Ok(Answer::Value(select.page())),
-        Call::Descriptor(number) => return Ok(Answer::Described(descriptor(board, number)?)),
-        Call::Buffer => return Ok(Answer::Holds(*buffer)),
     }
-    Ok(Answer::Accepted)
+
+    fn bytes(&mut self, value: u8, count: u16) -> Result<(), Refusal> {
+        for _ in 0..count {
+            self.board.byte(value)?;
+        }
+        Ok(())
+    }
+
+    fn line(&mut self, event: Event) -> Result<(), Refusal> {
+        match event {
+            Event::Byte(value) => self.board.byte(value),
+            Event::End(last) => self.board.end(last),
+            Event::Abort(fault) => self.board.abort(fault),
+        }
+    }
+
+    fn arrivals(&mut self, count: u16, length: u16, close: Event) -> Result<(), Refusal> {
+        for _ in 0..count {
+            self.board.begin()?;
+            self.bytes(0xFF, length)?;
+            self.line(close)?;
+        }
+        Ok(())
+    }
+
+    fn take(&mut self, room: usize) -> Outcome {
+        let out = &mut self.buffer[0..room.min(12)];
+        let (first, descriptors, length, status) = self.board.take(out)?;
+        Ok(Answer::Frame(first, descriptors, length, status))
+    }
+
+    fn read(&mut self, page: u8, at: u8) -> Outcome {
+        let hold = Hold::new(&mut self.select, page);
+        Ok(Answer::Value(self.board.read_register(&hold, at)?))
+    }
+
+    fn write(&mut self, page: u8, at: u8, value: u8) -> Result<(), Refusal> {
+        let hold = Hold::new(&mut self.select, page);
+        self.board.write_register(&hold, at, value)
+    }
+
+    fn descriptor(&self, number: u8) -> Result<[u8; 8], Refusal> {
+        let start = 8 * number as u32;
+        array::try_from_fn(|at| self.board.peek(Address(start + at as u32)))
+    }
+
+    fn play(&mut self, call: Call) -> Outcome {
+        match call {
+            Call::Open(plan, rcon) => self.board.open(&layout(plan)?, rcon)?,
+            Call::Begin => self.board.begin()?,
+            Call::Bytes(value, count) => self.bytes(value, count)?,
+            Call::Line(event) => self.line(event)?,
+            Call::Arrivals(count, length, close) => self.arrivals(count, length, close)?,
+            Call::Take(room) => return self.take(room),
+            Call::Release(descriptor) => self.board.release(descriptor)?,
+            Call::Peek(at) => return Ok(Answer::Value(self.board.peek(Address(at))?)),
+            Call::Poke(at, value) => self.board.poke(Address(at), value)?,
+            Call::Read(page, at) => return self.read(page, at),
+            Call::Write(page, at, value) => self.write(page, at, value)?,
+            Call::Cause => return Ok(Answer::Bit(self.board.cause()?)),
+            Call::Select(page) => self.select.select(page),
+            Call::Selected => return Ok(Answer::Value(self.select.page())),
+            Call::Descriptor(number) => return Ok(Answer::Described(self.descriptor(number)?)),
+            Call::Buffer => return Ok(Answer::Holds(self.buffer)),
+        }
+        Ok(Answer::Accepted)
+    }
 }
 
-fn outcome(played: Result<Answer, Refusal>) -> Answer {
-    match played {
-        Ok(answer) => answer,
-        Err(refusal) => Answer::Refused(refusal.number(), refusal.place()),
-    }
-}
-
-fn trial<M: Memory, R: Recogniser>(
+fn trial<M: Memory + Drop, R: Recogniser + Drop>(
     rt: &impl Abort,
-    memory: &str,
-    board: &mut Board<M, R>,
-    steps: &[(Call, Answer)],
+    name: &str,
+    mut bench: Bench<M, R>,
+    steps: &[(Call, Outcome)],
 ) {
-    let mut select = Select::new();
-    let mut buffer = [7; 12];
     for (i, (call, expected)) in steps.iter().enumerate() {
-        let played = play(board, &mut select, &mut buffer, *call);
-        assert_eq!(rt; outcome(played), *expected, "on {memory}, step {i}");
+        assert_eq!(rt; bench.play(*call), *expected, "on {name}, step {i}");
     }
 }
+
+// A function for each memory: the cells, which differ in type and number, have to outlive the board.
 
 /// Plays the calls over byte memory, from a shut board on.
 pub(crate) fn on_bytes<R: Recogniser + Drop>(
     rt: &impl Abort,
     recogniser: R,
-    steps: &[(Call, Answer)],
+    steps: &[(Call, Outcome)],
 ) {
     let mut cells = [0; 512];
-    let mut board = Board::new(Bytes::new(&mut cells), recogniser);
-    trial(rt, "byte memory", &mut board, steps);
+    let bench = Bench::new(Bytes::new(&mut cells), recogniser);
+    trial(rt, "byte memory", bench, steps);
 }
 
 /// Plays the calls over word memory, from a shut board on.
 pub(crate) fn on_words<R: Recogniser + Drop>(
     rt: &impl Abort,
     recogniser: R,
-    steps: &[(Call, Answer)],
+    steps: &[(Call, Outcome)],
 ) {
     let mut cells = [0; 256];
-    let mut board = Board::new(Words::new(&mut cells), recogniser);
-    trial(rt, "word memory", &mut board, steps);
+    let bench = Bench::new(Words::new(&mut cells), recogniser);
+    trial(rt, "word memory", bench, steps);
 }
+
+// The runtime, the recogniser and the steps stay parameters: a struct of them would be made in each test for one call.
 
 /// Plays the calls over both memories.
 pub(crate) fn on_both<R: Recogniser + Copy>(
     rt: &impl Abort,
     recogniser: R,
-    steps: &[(Call, Answer)],
+    steps: &[(Call, Outcome)],
 ) {
     on_bytes(rt, recogniser, steps);
     on_words(rt, recogniser, steps);
