@@ -5,10 +5,10 @@
 --   crc_over   the register after a list of bytes
 --   start      the register before the first byte: all ones
 --   residue    the register after the last byte of a frame that matches
-use Rattle.std.specs.Prelude.{ℕ, zero, suc, ◌*◌, ◌/◌, ◌%◌, ◌^◌, cond, List, [], ◌∷◌, ◌==◌, bit_xor}
+use Rattle.std.specs.Prelude.{ℕ, zero, suc, ◌*◌, ◌/◌, ◌%◌, ◌^◌, List, [], ◌∷◌, ◌==◌, bit_xor, if◌then◌else◌}
 
 abbrev pub crc_bit : ℕ → ℕ → ℕ
-crc_bit r d = cond (r / 2 ^ 31 == d) (r * 2 % 2 ^ 32) (bit_xor (r * 2 % 2 ^ 32) 0x04C11DB7)
+crc_bit r d = if r / 2 ^ 31 == d then r * 2 % 2 ^ 32 else bit_xor (r * 2 % 2 ^ 32) 0x04C11DB7
 
 unfoldable pub crc_bits : ℕ → ℕ → ℕ → ℕ
 crc_bits zero r b = r

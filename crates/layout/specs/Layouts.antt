@@ -5,7 +5,7 @@
 --   good_size      the sizes that a memory may have
 --   table_answer   what `table` answers; tabled, what it leaves
 --   add_answer     what `add` answers; added, what it leaves
-use Rattle.std.specs.Prelude.{ℕ, ◌+◌, ◌-◌, ◌*◌, ◌%◌, Bool, cond, ◌&&◌, ◌||◌, List, [], ◌∷◌, ◌++◌, length, take, Ok, Err, Result, ◌==◌, nat_le, nat_lt}
+use Rattle.std.specs.Prelude.{ℕ, ◌+◌, ◌-◌, ◌*◌, ◌%◌, Bool, ◌&&◌, ◌||◌, List, [], ◌∷◌, ◌++◌, length, take, Ok, Err, Result, ◌==◌, nat_le, nat_lt, if◌then◌else◌}
 use Rattle.refusal.specs.declared.Refusal.{Refusal}
 use Rattle.refusal.specs.declared.Refusal.TheVariants.{BadSize, BadTable, LayoutFull, BadBuffer, Shared}
 use Rattle.memory.specs.declared.address.Page.{Page}
@@ -32,8 +32,11 @@ good_size size = size % 256 == 0 && nat_le 512 size && nat_le size 65536
 
 abbrev pub table_answer : ℕ → Page → Page → Result (Unit {0}) Refusal
 table_answer size f p =
-    cond (good_size size)
-    (cond (nat_le p.0 f.0 || nat_lt 2 (p.0 - f.0) || nat_lt size (page_start p).0) (Err BadTable) (Ok tt)) (Err BadSize)
+    if good_size size then (
+    if nat_le p.0 f.0 || nat_lt 2 (p.0 - f.0) || nat_lt size (page_start p).0 then Err BadTable
+    else Ok tt
+    )
+    else Err BadSize
 
 abbrev pub tabled : Result (Unit {0}) Refusal → Shape → ℕ → Page → Page → Shape
 tabled (Ok u) l size f p = record { size = size; rbegin = f; rend = p; buffers = [] }
@@ -42,9 +45,10 @@ tabled (Err e) l size f p = l
 -- a table page has 32 descriptors
 abbrev pub add_answer : Shape → Buffer → Result (Unit {0}) Refusal
 add_answer l x =
-    cond (nat_le (32 * (l.rend.0 - l.rbegin.0)) (length l.buffers)) (Err LayoutFull)
-    (cond (x.length == 0 || nat_lt l.size (x.start.0 + x.length)) (Err BadBuffer)
-    (cond (meets (table_of l.rbegin l.rend) x || shares l.buffers x) (Err Shared) (Ok tt)))
+    if nat_le (32 * (l.rend.0 - l.rbegin.0)) (length l.buffers) then Err LayoutFull
+    else if x.length == 0 || nat_lt l.size (x.start.0 + x.length) then Err BadBuffer
+    else if meets (table_of l.rbegin l.rend) x || shares l.buffers x then Err Shared
+    else Ok tt
 
 abbrev pub added : Result (Unit {0}) Refusal → Shape → Buffer → Shape
 added (Ok u) l x = record { size = l.size; rbegin = l.rbegin; rend = l.rend; buffers = l.buffers ++ x ∷ [] }

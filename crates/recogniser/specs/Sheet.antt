@@ -9,7 +9,7 @@
 --   Admitted        what an accepted admit leaves: the place of the new entry among those in use is open
 --   Unchanged       what a refused admit leaves
 --   Admits          what admit leaves, by its answer
-use Rattle.std.specs.Prelude.{◌≡◌, ℕ, ◌+◌, Bool, true, false, cond, List, length, take, drop, Ok, Err, Result, nat_lt}
+use Rattle.std.specs.Prelude.{◌≡◌, ℕ, ◌+◌, Bool, true, false, List, length, take, drop, Ok, Err, Result, nat_lt, if◌then◌else◌}
 use Rattle.std.specs.List.{count_by, list_any}
 use Rattle.std.specs.Str.{bytes_eq}
 use Rattle.refusal.specs.declared.Refusal.{Refusal}
@@ -26,16 +26,15 @@ abbrev pub sheet_members : Sheet → List ℕ → Bool
 sheet_members s a = among a (in_use s)
 
 abbrev pub one_if : Bool → ℕ
-one_if b = cond b 1 0
+one_if b = if b then 1 else 0
 
 abbrev pub times : List ℕ → List (List ℕ) → ℕ
 times a es = count_by (bytes_eq a) es
 
 abbrev pub admit_answer : Sheet → List ℕ → Result (Unit {0}) Refusal
 admit_answer s a =
-    cond (nat_lt s.count (length s.entries.now))
-    (cond (sheet_members s a) (Err AlreadyMember) (Ok tt))
-    (Err SheetFull)
+    if nat_lt s.count (length s.entries.now) then (if sheet_members s a then Err AlreadyMember else Ok tt)
+    else Err SheetFull
 
 abbrev pub accepted : Result (Unit {0}) Refusal → Bool
 accepted (Ok u) = true

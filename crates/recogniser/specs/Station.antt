@@ -7,7 +7,7 @@
 --   group_index       the top six bits of the CRC register after the address
 --   table_bit         whether the group table has the bit of an index
 --   station_members   whether an address is a member
-use Rattle.std.specs.Prelude.{ℕ, ◌/◌, ◌%◌, ◌^◌, Bool, cond, ◌&&◌, ◌||◌, List, [], ◌∷◌, ◌==◌, slice_index}
+use Rattle.std.specs.Prelude.{ℕ, ◌/◌, ◌%◌, ◌^◌, Bool, ◌&&◌, ◌||◌, List, [], ◌∷◌, ◌==◌, slice_index, if◌then◌else◌}
 use Rattle.std.specs.Str.{bytes_eq}
 use Rattle.crc.specs.Crc.{crc_over, start}
 use Rattle.recogniser.specs.declared.station.Station.{Station}
@@ -36,6 +36,6 @@ table_bit t i = bit (slice_index t (i / 8)) (i % 8)
 
 abbrev pub station_members : Station → List ℕ → Bool
 station_members s a =
-    cond (even (slice_index a 0)) (bytes_eq a s.address || prom s)
-    (cond (bytes_eq a broadcast) (broad s)
-    (group s && table_bit s.table (group_index a)))
+    if even (slice_index a 0) then bytes_eq a s.address || prom s
+    else if bytes_eq a broadcast then broad s
+    else group s && table_bit s.table (group_index a)

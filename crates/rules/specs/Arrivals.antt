@@ -14,7 +14,7 @@
 --   handled                              what an event does in the phase that it finds
 --   begin_answer, event_answer           what begin, and what byte, end and abort answer
 --   begin_after, event_after             what begin leaves, and what byte, end and abort leave
-use Rattle.std.specs.Prelude.{ℕ, ◌+◌, min, Bool, true, cond, not, ◌&&◌, List, [], ◌∷◌, Ok, Err, Result, ◌==◌, nat_le, nat_lt, slice_index, slice_set}
+use Rattle.std.specs.Prelude.{ℕ, ◌+◌, min, Bool, true, not, ◌&&◌, List, [], ◌∷◌, Ok, Err, Result, ◌==◌, nat_le, nat_lt, slice_index, slice_set, if◌then◌else◌}
 use Rattle.refusal.specs.declared.Refusal.{Refusal}
 use Rattle.refusal.specs.declared.Refusal.TheVariants.{Shut, UnderWay, NoArrival}
 use Rattle.crc.specs.Crc.{crc_byte, start, residue}
@@ -39,7 +39,7 @@ abbrev pub count_up : ℕ → ℕ
 count_up n = min (n + 1) 255
 
 abbrev pub noted : ℕ → ℕ → ℕ
-noted n intstat = cond (nat_le high_count n) (with_bit CNT intstat) intstat
+noted n intstat = if nat_le high_count n then with_bit CNT intstat else intstat
 
 abbrev pub began : State → State
 began s = record {
@@ -61,7 +61,7 @@ abbrev pub missed : State → State
 missed s = with_phase (with_registers s (missed_registers s.registers)) Missed
 
 abbrev pub wanted : Setup → State → Stored → ℕ
-wanted g s t = cond (t.used == 0) s.curr (next g t.latest)
+wanted g s t = if t.used == 0 then s.curr else next g t.latest
 
 -- its descriptors are the `used` from CURR on, so the next is its own where it has all of them
 abbrev pub free_for : Setup → Stored → Descriptor → Bool
@@ -79,15 +79,13 @@ abbrev pub store_fresh : Setup → View → Stored → ℕ → View
 store_fresh g x t v =
     let d = wanted g x.state t in
     let e = descriptor g x.memory d in
-    cond (free_for g t e)
-    (view (slice_set x.memory e.start v) (with_phase x.state (Storing (entering t d e))))
-    (view x.memory (missed x.state))
+    if free_for g t e then view (slice_set x.memory e.start v) (with_phase x.state (Storing (entering t d e)))
+    else view x.memory (missed x.state)
 
 abbrev pub store : Setup → View → Stored → ℕ → View
 store g x t v =
-    cond (nat_lt t.filled t.length)
-    (view (slice_set x.memory (t.start + t.filled) v) (with_phase x.state (Storing (further t))))
-    (store_fresh g x t v)
+    if nat_lt t.filled t.length then view (slice_set x.memory (t.start + t.filled) v) (with_phase x.state (Storing (further t)))
+    else store_fresh g x t v
 
 abbrev pub store_in : Setup → View → Phase → ℕ → View
 store_in g x Idle v = x
@@ -106,7 +104,7 @@ unstored = record { used = 0; latest = 0; start = 0; length = 0; filled = 0; tot
 
 -- GROUP goes by the first byte of the address
 abbrev pub grouped : List ℕ → ℕ → ℕ
-grouped a rstat = cond (has 0 (slice_index a 0)) (with_bit GROUP rstat) rstat
+grouped a rstat = if has 0 (slice_index a 0) then with_bit GROUP rstat else rstat
 
 abbrev pub recognised_state : State → List ℕ → State
 recognised_state s a = with_phase (with_registers s (with_rstat s.registers (grouped a s.registers.rstat))) (Storing unstored)
@@ -115,11 +113,12 @@ abbrev pub recognised : Setup → View → List ℕ → View
 recognised g x a = store_all g (view x.memory (recognised_state x.state a)) a
 
 abbrev pub sixth : Setup → (List ℕ → Bool) → View → List ℕ → View
-sixth g among x a = cond (among a) (recognised g x a) (view x.memory (with_phase x.state Ignored))
+sixth g among x a = if among a then recognised g x a else view x.memory (with_phase x.state Ignored)
 
 abbrev pub address_byte : Setup → (List ℕ → Bool) → View → List ℕ → ℕ → ℕ → View
 address_byte g among x a n v =
-    cond (nat_lt n 5) (view x.memory (with_phase x.state (Address (slice_set a n v) (n + 1)))) (sixth g among x (slice_set a 5 v))
+    if nat_lt n 5 then view x.memory (with_phase x.state (Address (slice_set a n v) (n + 1)))
+    else sixth g among x (slice_set a 5 v)
 
 -- in the phase address alone
 abbrev pub address_in : Setup → (List ℕ → Bool) → View → Phase → ℕ → View
@@ -157,10 +156,10 @@ is_runt g t = nat_lt t.total shortest_frame && not (has RUNTS g.rcon)
 abbrev pub finished : Setup → View → Stored → LastByte → View
 finished g x t l =
     let r = x.state.registers in
-    cond (is_runt g t) (over x)
-    (cond (x.state.crc == residue) (kept g x t (matched r))
-    (cond (has SEP g.rcon) (kept g x t (with_rxe (mismatched l r)))
-    (over (view x.memory (with_registers x.state (mismatched l r))))))
+    if is_runt g t then over x
+    else if x.state.crc == residue then kept g x t (matched r)
+    else if has SEP g.rcon then kept g x t (with_rxe (mismatched l r))
+    else over (view x.memory (with_registers x.state (mismatched l r)))
 
 abbrev pub overrun_registers : Registers → Registers
 overrun_registers r = counted RXE (with_rstat r (with_bit OVER r.rstat))
@@ -193,10 +192,10 @@ arrives g among x (End l) = handled g among x x.state.phase (End l)
 arrives g among x (Abort f) = handled g among x x.state.phase (Abort f)
 
 abbrev pub begin_answer : Shown → Result (Unit {0}) Refusal
-begin_answer b = cond b.shut (Err Shut) (cond (idle b.view.state.phase) (Ok tt) (Err UnderWay))
+begin_answer b = if b.shut then Err Shut else if idle b.view.state.phase then Ok tt else Err UnderWay
 
 abbrev pub event_answer : Shown → Result (Unit {0}) Refusal
-event_answer b = cond b.shut (Err Shut) (cond (idle b.view.state.phase) (Err NoArrival) (Ok tt))
+event_answer b = if b.shut then Err Shut else if idle b.view.state.phase then Err NoArrival else Ok tt
 
 abbrev pub begin_after : Shown → Shown
 begin_after b = on (begin_answer b) b (view b.view.memory (began b.view.state))

@@ -9,7 +9,7 @@
 --   waiting       the frames that wait in the table: the runs from d on, until a descriptor is free or TAKEN, once round at most
 --   Untouched     no byte of an unreleased frame's buffers has changed since the end that kept it
 --   Explains      what the history says of the board
-use Rattle.std.specs.Prelude.{◌≡◌, ℕ, zero, suc, ◌+◌, ◌-◌, ◌<◌, Bool, true, false, cond, not, ◌&&◌, List, [], ◌∷◌, ◌++◌, map, length, Ok, Err, Result, nat_lt, slice_index}
+use Rattle.std.specs.Prelude.{◌≡◌, ℕ, zero, suc, ◌+◌, ◌-◌, ◌<◌, Bool, true, false, not, ◌&&◌, List, [], ◌∷◌, ◌++◌, map, length, Ok, Err, Result, nat_lt, slice_index, if◌then◌else◌}
 use Rattle.rules.specs.declared.state.Setup.{Setup}
 use Rattle.rules.specs.declared.state.Run.{Run}
 use Rattle.rules.specs.declared.state.Break.{Break}
@@ -44,7 +44,7 @@ starting = record { ledger = record { frames = []; arrival = none; missed = fals
 abbrev pub end_sight : Plan → (List ℕ → Bool) → Ledger → Call → Sight → List Sight
 end_sight s among l begins e = []
 end_sight s among l (byte_comes v) e = []
-end_sight s among l (ends b) e = cond (keeps_arrival s among l.arrival) (e ∷ []) []
+end_sight s among l (ends b) e = if keeps_arrival s among l.arrival then e ∷ [] else []
 end_sight s among l (aborts w) e = []
 end_sight s among l (takes room) e = []
 end_sight s among l (releases d) e = []
@@ -76,7 +76,7 @@ deliveries (f ∷ fs) (e ∷ es) = kept_as f e ∷ deliveries fs es
 abbrev pub untaken : List Frame → List Sight → List Delivery
 untaken [] es = []
 untaken (f ∷ fs) [] = []
-untaken (f ∷ fs) (e ∷ es) = cond f.taken (untaken fs es) (kept_as f e ∷ untaken fs es)
+untaken (f ∷ fs) (e ∷ es) = if f.taken then untaken fs es else kept_as f e ∷ untaken fs es
 
 abbrev pub next_run : Setup → List ℕ → ℕ → ℕ → Result Run Break → (ℕ → ℕ → List Receipt) → List Receipt
 next_run g m left d (Err w) others = []
@@ -87,8 +87,8 @@ next_run g m left d (Ok r) others =
 unfoldable pub runs : Setup → List ℕ → ℕ → ℕ → ℕ → List Receipt
 runs g m zero left d = []
 runs g m (suc k) left d =
-    cond (nat_lt 0 left && (held (descriptor g m d) && not (taken (descriptor g m d))))
-    (next_run g m left d (run g m false d) (λ rest e. runs g m k rest e)) []
+    if nat_lt 0 left && (held (descriptor g m d) && not (taken (descriptor g m d))) then next_run g m left d (run g m false d) (λ rest e. runs g m k rest e)
+    else []
 
 abbrev pub waiting : Setup → List ℕ → ℕ → List Receipt
 waiting g m d = runs g m g.count g.count d

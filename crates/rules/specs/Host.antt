@@ -7,7 +7,7 @@
 --   release_answer, release_after      what a release answers and leaves
 --   peek_answer                        the byte at an address
 --   poke_answer, poke_after            what a poke answers and leaves
-use Rattle.std.specs.Prelude.{ℕ, ◌+◌, true, false, cond, not, ◌&&◌, List, [], ◌∷◌, length, Ok, Err, Result, nat_le, nat_lt, slice_index, slice_set}
+use Rattle.std.specs.Prelude.{ℕ, ◌+◌, true, false, not, ◌&&◌, List, [], ◌∷◌, length, Ok, Err, Result, nat_le, nat_lt, slice_index, slice_set, if◌then◌else◌}
 use Rattle.refusal.specs.declared.Refusal.{Refusal}
 use Rattle.refusal.specs.declared.Refusal.TheVariants.{Shut, UnderWay, NoFrame, Broken, ShortBuffer, NotTaken, Outside}
 use Rattle.rules.specs.declared.state.Run.{Run}
@@ -28,7 +28,7 @@ run_judged (Err w) = Err (judged w)
 
 -- the same, where the caller's buffer has room bytes
 abbrev pub room_judged : ℕ → Result Run Break → Result Run Refusal
-room_judged room (Ok f) = cond (nat_le f.length room) (Ok f) (Err ShortBuffer)
+room_judged room (Ok f) = if nat_le f.length room then Ok f else Err ShortBuffer
 room_judged room (Err w) = Err (judged w)
 
 abbrev pub take_judged : Shown → ℕ → Result Run Refusal
@@ -37,22 +37,21 @@ take_judged b room =
     let m = b.view.memory in
     let d = b.view.state.host in
     let e = descriptor g m d in
-    cond b.shut (Err Shut)
-    (cond (lawful g e)
-    (cond (held e && not (taken e)) (room_judged room (run g m false d)) (Err NoFrame))
-    (Err (Broken d)))
+    if b.shut then Err Shut
+    else if lawful g e then (if held e && not (taken e) then room_judged room (run g m false d) else Err NoFrame)
+    else Err (Broken d)
 
 abbrev pub release_judged : Shown → ℕ → Result Run Refusal
 release_judged b d =
     let g = b.setup in
     let m = b.view.memory in
     let e = descriptor g m d in
-    cond b.shut (Err Shut)
-    (cond (nat_lt d g.count)
-    (cond (lawful g e)
-    (cond (held e && first e && taken e) (run_judged (run g m true d)) (Err NotTaken))
-    (Err (Broken d)))
-    (Err NotTaken))
+    if b.shut then Err Shut
+    else if nat_lt d g.count then (
+    if lawful g e then (if held e && first e && taken e then run_judged (run g m true d) else Err NotTaken)
+    else Err (Broken d)
+    )
+    else Err NotTaken
 
 abbrev pub take_answer : Shown → Result Run Refusal → Result (ℕ × ℕ × ℕ × ℕ) Refusal
 take_answer b (Ok f) = Ok (b.view.state.host, f.count, f.length, f.status)
@@ -85,10 +84,12 @@ release_after b d (Ok f) =
 release_after b d (Err e) = b
 
 abbrev pub peek_answer : Shown → ℕ → Result ℕ Refusal
-peek_answer b a = cond (nat_lt a (length b.view.memory)) (Ok (slice_index b.view.memory a)) (Err (Outside a))
+peek_answer b a = if nat_lt a (length b.view.memory) then Ok (slice_index b.view.memory a) else Err (Outside a)
 
 abbrev pub poke_answer : Shown → ℕ → Result (Unit {0}) Refusal
-poke_answer b a = cond (idle b.view.state.phase) (cond (nat_lt a (length b.view.memory)) (Ok tt) (Err (Outside a))) (Err UnderWay)
+poke_answer b a =
+    if idle b.view.state.phase then (if nat_lt a (length b.view.memory) then Ok tt else Err (Outside a))
+    else Err UnderWay
 
 abbrev pub poke_after : Shown → ℕ → ℕ → Shown
 poke_after b a v = on (poke_answer b a) b (view (slice_set b.view.memory a v) b.view.state)

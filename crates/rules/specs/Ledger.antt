@@ -13,7 +13,7 @@
 --   take_first, release_at    the first untaken frame is taken; the unreleased frame that starts at d is released
 --   enter                     the ledger after an accepted call
 --   verdict                   the number that a call must answer: 0 where it must be accepted
-use Rattle.std.specs.Prelude.{ℕ, ◌+◌, Bool, true, false, cond, not, ◌&&◌, ◌||◌, List, [], ◌∷◌, ◌++◌, length, take, ◌==◌, nat_le, nat_lt}
+use Rattle.std.specs.Prelude.{ℕ, ◌+◌, Bool, true, false, not, ◌&&◌, ◌||◌, List, [], ◌∷◌, ◌++◌, length, take, ◌==◌, nat_le, nat_lt, if◌then◌else◌}
 use Rattle.refusal.specs.Numbers.{code}
 use Rattle.crc.specs.Crc.{crc_over, start, residue}
 use Rattle.rules.specs.Bits.{has, SEP, RUNTS, shortest_frame}
@@ -45,7 +45,7 @@ pub record Ledger : Type 0 where
 
 abbrev pub holders : List Frame → ℕ → ℕ
 holders [] d = 0
-holders (f ∷ fs) d = cond f.released 0 (times d f.buffers) + holders fs d
+holders (f ∷ fs) d = (if f.released then 0 else times d f.buffers) + holders fs d
 
 abbrev pub after_frames : Plan → List Frame → ℕ → ℕ
 after_frames s [] e = e
@@ -53,7 +53,7 @@ after_frames s (f ∷ fs) e = after_frames s fs (after s f.buffers e)
 
 abbrev pub after_taken : Plan → List Frame → ℕ → ℕ
 after_taken s [] e = e
-after_taken s (f ∷ fs) e = after_taken s fs (cond f.taken (after s f.buffers e) e)
+after_taken s (f ∷ fs) e = after_taken s fs (if f.taken then after s f.buffers e else e)
 
 abbrev pub empty : List ℕ → Bool
 empty [] = true
@@ -65,12 +65,10 @@ empty (d ∷ ds) = false
 unfoldable pub fill_one : Plan → List Frame → Fill → Fill
 fill_one s fs f =
     let d = after s f.own (after_frames s fs 0) in
-    cond f.missed f
-    (cond (not (empty f.own) && nat_lt f.filled (buffer s (latest f.own 0)).length)
-    (record { own = f.own; filled = f.filled + 1; missed = false })
-    (cond (holders fs d + times d f.own == 0)
-    (record { own = f.own ++ (d ∷ []); filled = 1; missed = false })
-    (record { own = f.own; filled = f.filled; missed = true })))
+    if f.missed then f
+    else if not (empty f.own) && nat_lt f.filled (buffer s (latest f.own 0)).length then record { own = f.own; filled = f.filled + 1; missed = false }
+    else if holders fs d + times d f.own == 0 then record { own = f.own ++ (d ∷ []); filled = 1; missed = false }
+    else record { own = f.own; filled = f.filled; missed = true }
 
 abbrev pub fill_all : Plan → List Frame → Fill → List ℕ → Fill
 fill_all s fs f [] = f
@@ -81,7 +79,7 @@ recognised among bs = nat_le 6 (length bs) && among (take 6 bs)
 
 -- the bytes that go to buffers with v, the last of bs: at the sixth all six, later that one
 abbrev pub due : (List ℕ → Bool) → List ℕ → ℕ → List ℕ
-due among bs v = cond (recognised among bs) (cond (length bs == 6) bs (v ∷ [])) []
+due among bs v = if recognised among bs then (if length bs == 6 then bs else v ∷ []) else []
 
 abbrev pub no_fill : Fill
 no_fill = record { own = []; filled = 0; missed = false }
@@ -98,7 +96,9 @@ keeps_arrival s among (coming bs f) = keeps s among bs f
 -- the frame that an end makes of an arrival, if it keeps it
 abbrev pub kept_frames : Plan → (List ℕ → Bool) → Arrival → List Frame
 kept_frames s among none = []
-kept_frames s among (coming bs f) = cond (keeps s among bs f) (record { buffers = f.own; bytes = bs; taken = false; released = false } ∷ []) []
+kept_frames s among (coming bs f) =
+    if keeps s among bs f then record { buffers = f.own; bytes = bs; taken = false; released = false } ∷ []
+    else []
 
 abbrev pub with_arrival : Ledger → Arrival → Bool → Ledger
 with_arrival l a x = record { frames = l.frames; arrival = a; missed = x }
@@ -115,7 +115,8 @@ add_byte s among l v (coming bs f) =
 abbrev pub take_first : List Frame → List Frame
 take_first [] = []
 take_first (f ∷ fs) =
-    cond f.taken (f ∷ take_first fs) (record { buffers = f.buffers; bytes = f.bytes; taken = true; released = f.released } ∷ fs)
+    if f.taken then f ∷ take_first fs
+    else record { buffers = f.buffers; bytes = f.bytes; taken = true; released = f.released } ∷ fs
 
 abbrev pub starts : List ℕ → ℕ → Bool
 starts [] d = false
@@ -124,8 +125,8 @@ starts (e ∷ es) d = e == d
 abbrev pub release_at : ℕ → List Frame → List Frame
 release_at d [] = []
 release_at d (f ∷ fs) =
-    cond (not f.released && starts f.buffers d)
-    (record { buffers = f.buffers; bytes = f.bytes; taken = f.taken; released = true } ∷ fs) (f ∷ release_at d fs)
+    if not f.released && starts f.buffers d then record { buffers = f.buffers; bytes = f.bytes; taken = f.taken; released = true } ∷ fs
+    else f ∷ release_at d fs
 
 abbrev pub enter : Plan → (List ℕ → Bool) → Ledger → Call → Ledger
 enter s among l begins = with_arrival l (coming [] no_fill) false
@@ -143,23 +144,23 @@ under_way (coming bs f) = true
 -- 12 where no kept frame is untaken, 14 where the first such is longer than the caller's buffer
 abbrev pub take_verdict : List Frame → ℕ → ℕ
 take_verdict [] room = 12
-take_verdict (f ∷ fs) room = cond f.taken (take_verdict fs room) (cond (nat_le (length f.bytes) room) 0 14)
+take_verdict (f ∷ fs) room = if f.taken then take_verdict fs room else if nat_le (length f.bytes) room then 0 else 14
 
 abbrev pub starts_taken : List Frame → ℕ → Bool
 starts_taken [] d = false
 starts_taken (f ∷ fs) d = (f.taken && not f.released && starts f.buffers d) || starts_taken fs d
 
 abbrev pub look_verdict : Plan → Look → ℕ
-look_verdict s (peeks a) = cond (nat_lt a s.shape.size) 0 17
+look_verdict s (peeks a) = if nat_lt a s.shape.size then 0 else 17
 look_verdict s (reads p a) = code (found (readable p a))
 look_verdict s (writes p a v) = code (found (writable p a))
 look_verdict s asks_cause = 0
 
 abbrev pub verdict : Plan → Ledger → Call → ℕ
-verdict s l begins = cond (under_way l.arrival) 10 0
-verdict s l (byte_comes v) = cond (under_way l.arrival) 0 11
-verdict s l (ends b) = cond (under_way l.arrival) 0 11
-verdict s l (aborts w) = cond (under_way l.arrival) 0 11
+verdict s l begins = if under_way l.arrival then 10 else 0
+verdict s l (byte_comes v) = if under_way l.arrival then 0 else 11
+verdict s l (ends b) = if under_way l.arrival then 0 else 11
+verdict s l (aborts w) = if under_way l.arrival then 0 else 11
 verdict s l (takes room) = take_verdict l.frames room
-verdict s l (releases d) = cond (starts_taken l.frames d) 0 15
+verdict s l (releases d) = if starts_taken l.frames d then 0 else 15
 verdict s l (looks w) = look_verdict s w

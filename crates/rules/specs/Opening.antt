@@ -5,7 +5,7 @@
 --   open_answer             what open answers
 --   setup_of, opened_state  what it fixes, and the state that it starts from
 --   open_after              what it leaves
-use Rattle.std.specs.Prelude.{ℕ, ◌+◌, ◌*◌, ◌/◌, ◌%◌, true, false, cond, List, [], ◌∷◌, length, Ok, Err, Result, ◌==◌, nat_lt, slice_set}
+use Rattle.std.specs.Prelude.{ℕ, ◌+◌, ◌*◌, ◌/◌, ◌%◌, true, false, List, [], ◌∷◌, length, Ok, Err, Result, ◌==◌, nat_lt, slice_set, if◌then◌else◌}
 use Rattle.refusal.specs.declared.Refusal.{Refusal}
 use Rattle.refusal.specs.declared.Refusal.TheVariants.{NoBuffer, OtherSize, BadRcon}
 use Rattle.layout.specs.declared.buffer.Buffer.{Buffer}
@@ -32,8 +32,9 @@ described rbegin m d (b ∷ bs) = described rbegin (describe_one rbegin m d b) (
 -- bits 0 and 1 of RCON are all that it has
 abbrev pub open_answer : ℕ → Shape → ℕ → Result (Unit {0}) Refusal
 open_answer size l rcon =
-    cond (length l.buffers == 0) (Err NoBuffer)
-    (cond (l.size == size) (cond (nat_lt rcon 4) (Ok tt) (Err BadRcon)) (Err OtherSize))
+    if length l.buffers == 0 then Err NoBuffer
+    else if l.size == size then (if nat_lt rcon 4 then Ok tt else Err BadRcon)
+    else Err OtherSize
 
 abbrev pub setup_of : Shape → ℕ → Setup
 setup_of l rcon = record { size = l.size; rbegin = l.rbegin; rend = l.rend; count = length l.buffers; rcon = rcon }

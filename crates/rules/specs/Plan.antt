@@ -8,7 +8,7 @@
 --   latest     the last of a list, or e where it is empty
 --   times      how often a buffer stands in a list
 --   row        so many buffers in order, from one on
-use Rattle.std.specs.Prelude.{ℕ, zero, suc, ◌+◌, cond, List, [], ◌∷◌, length, ◌==◌, slice_index_or}
+use Rattle.std.specs.Prelude.{ℕ, zero, suc, ◌+◌, List, [], ◌∷◌, length, ◌==◌, slice_index_or, if◌then◌else◌}
 use Rattle.layout.specs.declared.buffer.Buffer.{Buffer}
 use Rattle.layout.specs.declared.layout.Layout.{Layout}
 use Rattle.layout.specs.Layouts.{Shape, shape}
@@ -45,7 +45,7 @@ latest (d ∷ ds) e = latest ds d
 
 abbrev pub times : ℕ → List ℕ → ℕ
 times d [] = 0
-times d (e ∷ es) = cond (d == e) 1 0 + times d es
+times d (e ∷ es) = (if d == e then 1 else 0) + times d es
 
 abbrev pub row : Plan → ℕ → ℕ → List ℕ
 row s d zero = []

@@ -6,7 +6,7 @@
 --   read_answer, read_after      what a read answers and leaves; write_answer, write_after the same of a write
 --   lowest_both                  the lowest bit that is set in two bytes
 --   cause_answer                 what cause answers
-use Rattle.std.specs.Prelude.{ℕ, zero, suc, ◌+◌, ◌-◌, ◌%◌, cond, ◌&&◌, Some, None, Ok, Err, Option, Result, ◌==◌, bit_and}
+use Rattle.std.specs.Prelude.{ℕ, zero, suc, ◌+◌, ◌-◌, ◌%◌, ◌&&◌, Some, None, Ok, Err, Option, Result, ◌==◌, bit_and, if◌then◌else◌}
 use Rattle.refusal.specs.declared.Refusal.{Refusal}
 use Rattle.refusal.specs.declared.Refusal.TheVariants.{Shut, NoRegister}
 use Rattle.rules.specs.declared.state.Setup.{Setup}
@@ -18,16 +18,27 @@ use Rattle.rules.specs.Views.{Shown, view, with_view, with_registers, with_intst
 
 abbrev pub readable : ℕ → ℕ → Option Register
 readable page at =
-    cond (page == 0)
-    (cond (at == 0x17) (Some IntStat) (cond (at == 0x1C) (Some RStat) (cond (at == 0x1D) (Some AliCnt)
-    (cond (at == 0x1E) (Some CrcCnt) (cond (at == 0x1F) (Some MpCnt) None)))))
-    (cond (page == 2)
-    (cond (at == 0x11) (Some RBegin) (cond (at == 0x12) (Some REnd) (cond (at == 0x1C) (Some RCon)
-    (cond (at == 0x1F) (Some IntMask) None))))
-    None)
+    if page == 0 then (
+    if at == 0x17 then Some IntStat
+    else if at == 0x1C then Some RStat
+    else if at == 0x1D then Some AliCnt
+    else if at == 0x1E then Some CrcCnt
+    else if at == 0x1F then Some MpCnt
+    else None
+    )
+    else if page == 2 then (
+    if at == 0x11 then Some RBegin
+    else if at == 0x12 then Some REnd
+    else if at == 0x1C then Some RCon
+    else if at == 0x1F then Some IntMask
+    else None
+    )
+    else None
 
 abbrev pub writable : ℕ → ℕ → Option Register
-writable page at = cond (page == 0) (cond (at == 0x17) (Some IntStat) (cond (at == 0x1F) (Some IntMask) None)) None
+writable page at =
+    if page == 0 then (if at == 0x17 then Some IntStat else if at == 0x1F then Some IntMask else None)
+    else None
 
 abbrev pub register_value : Setup → State → Register → ℕ
 register_value g s IntStat = s.registers.intstat
@@ -80,24 +91,30 @@ state_written s None v = s
 state_written s (Some r) v = written_state s r v
 
 abbrev pub read_answer : Shown → ℕ → ℕ → Result ℕ Refusal
-read_answer b page at = cond b.shut (Err Shut) (value_at b.setup b.view.state (readable page at))
+read_answer b page at = if b.shut then Err Shut else value_at b.setup b.view.state (readable page at)
 
 abbrev pub read_after : Shown → ℕ → ℕ → Shown
-read_after b page at = cond b.shut b (with_view b (view b.view.memory (state_read b.view.state (readable page at))))
+read_after b page at =
+    if b.shut then b
+    else with_view b (view b.view.memory (state_read b.view.state (readable page at)))
 
 abbrev pub write_answer : Shown → ℕ → ℕ → Result (Unit {0}) Refusal
-write_answer b page at = cond b.shut (Err Shut) (found (writable page at))
+write_answer b page at = if b.shut then Err Shut else found (writable page at)
 
 abbrev pub write_after : Shown → ℕ → ℕ → ℕ → Shown
-write_after b page at v = cond b.shut b (with_view b (view b.view.memory (state_written b.view.state (writable page at) v)))
+write_after b page at v =
+    if b.shut then b
+    else with_view b (view b.view.memory (state_written b.view.state (writable page at) v))
 
 -- of the k bits from i on
 abbrev pub lowest_from : ℕ → ℕ → ℕ → ℕ → Option ℕ
 lowest_from a b i zero = None
-lowest_from a b i (suc k) = cond (has i a && has i b) (Some i) (lowest_from a b (i + 1) k)
+lowest_from a b i (suc k) = if has i a && has i b then Some i else lowest_from a b (i + 1) k
 
 abbrev pub lowest_both : ℕ → ℕ → Option ℕ
 lowest_both a b = lowest_from a b 0 8
 
 abbrev pub cause_answer : Shown → Result (Option ℕ) Refusal
-cause_answer b = cond b.shut (Err Shut) (Ok (lowest_both b.view.state.registers.intstat b.view.state.registers.intmask))
+cause_answer b =
+    if b.shut then Err Shut
+    else Ok (lowest_both b.view.state.registers.intstat b.view.state.registers.intmask)

@@ -10,7 +10,7 @@
 --   span, frame_bytes      the bytes of a part of memory, and of a frame: the first fill bytes of each buffer in turn
 --   keep_run               the memory after the descriptors of a kept arrival are marked
 --   take_run, clear_run    the memory after the descriptors of a frame are marked TAKEN, and after they are freed
-use Rattle.std.specs.Prelude.{ℕ, zero, suc, ◌+◌, ◌*◌, ◌/◌, ◌%◌, Bool, true, false, cond, not, ◌&&◌, ◌||◌, List, [], ◌∷◌, ◌++◌, Ok, Err, Result, ◌==◌, nat_le, nat_lt, slice_index, slice_set}
+use Rattle.std.specs.Prelude.{ℕ, zero, suc, ◌+◌, ◌*◌, ◌/◌, ◌%◌, Bool, true, false, not, ◌&&◌, ◌||◌, List, [], ◌∷◌, ◌++◌, Ok, Err, Result, ◌==◌, nat_le, nat_lt, slice_index, slice_set, if◌then◌else◌}
 use Rattle.rules.specs.declared.state.Setup.{Setup}
 use Rattle.rules.specs.declared.state.Descriptor.{Descriptor}
 use Rattle.rules.specs.declared.state.Run.{Run}
@@ -25,7 +25,7 @@ abbrev pub place : Setup → ℕ → ℕ
 place g d = g.rbegin.0 * 256 + 8 * d
 
 unfoldable pub next : Setup → ℕ → ℕ
-next g d = cond (nat_lt (d + 1) g.count) (d + 1) 0
+next g d = if nat_lt (d + 1) g.count then d + 1 else 0
 
 abbrev pub onward : Setup → ℕ → ℕ → ℕ
 onward g d zero = d
@@ -81,13 +81,16 @@ in_place tk start e = held e && alike (taken e) tk && alike (first e) start
 unfoldable pub run_on : Setup → List ℕ → Bool → ℕ → ℕ → ℕ → ℕ → Result Run Break
 run_on g m tk i len d zero = Err (Endless d)
 run_on g m tk i len d (suc k) =
-    cond (lawful g (descriptor g m d))
-    (cond (in_place tk (i == 0) (descriptor g m d))
-    (cond (last (descriptor g m d))
-    (Ok (record { count = i + 1; length = len + (descriptor g m d).fill; status = (descriptor g m d).status }))
-    (cond (k == 0) (Err (Endless d)) (run_on g m tk (i + 1) (len + (descriptor g m d).fill) (next g d) k)))
-    (Err (Misplaced d)))
-    (Err (Unlawful d))
+    if lawful g (descriptor g m d) then (
+    if in_place tk (i == 0) (descriptor g m d) then (
+    if last (descriptor g m d) then
+    Ok (record { count = i + 1; length = len + (descriptor g m d).fill; status = (descriptor g m d).status })
+    else if k == 0 then Err (Endless d)
+    else run_on g m tk (i + 1) (len + (descriptor g m d).fill) (next g d) k
+    )
+    else Err (Misplaced d)
+    )
+    else Err (Unlawful d)
 
 abbrev pub run : Setup → List ℕ → Bool → ℕ → Result Run Break
 run g m tk d = run_on g m tk 0 0 d g.count
@@ -102,12 +105,12 @@ frame_bytes g m d (suc k) = span m (descriptor g m d).start (descriptor g m d).f
 
 -- byte 0 of a kept arrival's descriptor
 abbrev pub kept_flags : Bool → Bool → ℕ
-kept_flags start end = 1 + cond start 2 0 + cond end 4 0
+kept_flags start end = 1 + (if start then 2 else 0) + (if end then 4 else 0)
 
 -- fill is the length, and in the last `filled`; the status stands in the last
 abbrev pub keep_one : Setup → List ℕ → ℕ → ℕ → ℕ → Bool → Bool → List ℕ
 keep_one g m d filled status start end =
-    write g m d (kept_flags start end) (cond end status 0) (cond end filled (descriptor g m d).length)
+    write g m d (kept_flags start end) (if end then status else 0) (if end then filled else (descriptor g m d).length)
 
 -- k more descriptors, from d on
 abbrev pub keep_run : Setup → List ℕ → ℕ → ℕ → ℕ → Bool → ℕ → List ℕ
