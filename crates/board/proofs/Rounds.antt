@@ -2,18 +2,14 @@
 --   length_numbers     a run has as many numbers as it says
 --   _is                over a run's numbers a fold, or the judgement, gives what the rules define
 use Rattle.std.proofs.Common.{◌≡◌, ℕ, zero, suc, ◌+◌, Bool, true, false, cond, eqb, List, [], ◌∷◌, ◌++◌, length, Ok, Err, Result, sym, refl, ap, ◌∙◌, arith}
-use Rattle.std.proofs.lemmas.List.{length-append}
-use Rattle.std.proofs.lemmas.Bool.{cond-true, cond-false, ne_eqb}
+use Rattle.std.proofs.lemmas.Bool.{cond-false, ne_eqb}
 use Rattle.std.proofs.lemmas.Bool.Decides.{nat_tests}
 use Rattle.std.specs.List.{fold}
 use Rattle.rules.specs.declared.state.Setup.{Setup}
-use Rattle.rules.specs.declared.state.Descriptor.{Descriptor}
 use Rattle.rules.specs.declared.state.Run.{Run}
 use Rattle.rules.specs.declared.state.Break.{Break}
 use Rattle.rules.specs.declared.state.Break.TheVariants.{Unlawful, Misplaced, Endless}
 use Rattle.rules.specs.Table.{next, onward, descriptor, last, lawful, in_place, run_on, write, span, frame_bytes, keep_one, keep_run, take_one, take_run, clear_run}
-use Rattle.rules.specs.Host.{overlay}
-use Rattle.rules.proofs.Overlays.{length_span, overlay_none, overlay_append}
 use Rattle.board.specs.Rounds.{numbers}
 
 pub length_numbers : (g : Setup) (d k : ℕ) → length (numbers g d k) ≡ k
@@ -51,21 +47,6 @@ unfolding frame_bytes
 bytes_is g m d zero = refl
 bytes_is g m d (suc k) = ap (λ (xs : List ℕ). span m (descriptor g m d).start (descriptor g m d).fill ++ xs) (bytes_is g m (next g d) k)
 
-pub copy_step : (g : Setup) (m out out' r : List ℕ) (at d : ℕ) (e : Descriptor) (ds es : List ℕ) → es ≡ d ∷ ds → e ≡ descriptor g m d →
-    overlay out at (bytes_of g m es) ≡ r → out' ≡ overlay out at (span m e.start e.fill) → overlay out' (at + e.fill) (bytes_of g m ds) ≡ r
-copy_step g m out out' r at d e ds es is q inv p =
-    (λ j. overlay (p j) (at + sym (length_span m e.start e.fill) j) (bytes_of g m ds))
-    ∙ sym (overlay_append out at (span m e.start e.fill) (bytes_of g m ds))
-    ∙ ap (λ (x : Descriptor). overlay out at (span m x.start x.fill ++ bytes_of g m ds)) q
-    ∙ sym (ap (λ (xs : List ℕ). overlay out at (bytes_of g m xs)) is) ∙ inv
-
-pub copy_end : (g : Setup) (m out r : List ℕ) (at : ℕ) (es : List ℕ) → es ≡ [] → overlay out at (bytes_of g m es) ≡ r → out ≡ r
-copy_end g m out r at es e inv = sym (overlay_none out at) ∙ sym (ap (λ (xs : List ℕ). overlay out at (bytes_of g m xs)) e) ∙ inv
-
--- the items so far and those left, after a turn
-pub length_turn : (ys : List ℕ) (d n : ℕ) (ds es : List ℕ) → es ≡ d ∷ ds → length ys + length es ≡ n → length (ys ++ d ∷ []) + length ds ≡ n
-length_turn ys d n ds es e h = omega (arith, length-append ys (d ∷ []), ap length e)
-
 -- the judgement of the descriptors of a list: i of len bytes stand before them, latest last
 abbrev pub judge : Setup → List ℕ → Bool → ℕ → ℕ → ℕ → List ℕ → Result Run Break
 judge g m tk i len latest [] = Err (Endless latest)
@@ -96,40 +77,6 @@ unfolding run_on
 judge_is g m tk d zero = refl
 judge_is g m tk d (suc k) =
     judge_on g m tk 0 0 d d (suc k) ∙ cond-false (eqb (suc k) 0) (Err (Endless d)) _ (ne_eqb (suc k) 0 (λ e. absurd (omega (arith, e))))
-
-pub judge_end : (g : Setup) (m : List ℕ) (tk : Bool) (i len latest : ℕ) (es : List ℕ) (r : Result Run Break) → es ≡ [] →
-    judge g m tk i len latest es ≡ r → Err (Endless latest) ≡ r
-judge_end g m tk i len latest es r e inv = sym (ap (judge g m tk i len latest) e) ∙ inv
-
--- a turn of it at the descriptor e, which is that of d
-module _ (g : Setup) (m : List ℕ) (tk : Bool) (i len latest d : ℕ) (ds es : List ℕ) (e : Descriptor) (r : Result Run Break)
-    (left : es ≡ d ∷ ds) (is : e ≡ descriptor g m d) (inv : judge g m tk i len latest es ≡ r) where
-  abbrev more : Result Run Break
-  more = judge g m tk (i + 1) (len + e.fill) d ds
-
-  abbrev ended : Result Run Break
-  ended = Ok (record { count = i + 1; length = len + e.fill; status = e.status })
-
-  turn : r ≡ cond (lawful g e) (cond (in_place tk (eqb i 0) e) (cond (last e) ended more) (Err (Misplaced d))) (Err (Unlawful d))
-  turn =
-      sym inv ∙ ap (judge g m tk i len latest) left
-      ∙ ap (λ (x : Descriptor). cond (lawful g x)
-      (cond (in_place tk (eqb i 0) x)
-      (cond (last x) (Ok (record { count = i + 1; length = len + x.fill; status = x.status })) (judge g m tk (i + 1) (len + x.fill) d ds))
-      (Err (Misplaced d)))
-      (Err (Unlawful d))) (sym is)
-
-  pub judge_unlawful : lawful g e ≡ false → Err (Unlawful d) ≡ r
-  judge_unlawful a = sym (turn ∙ cond-false (lawful g e) _ _ a)
-
-  pub judge_misplaced : lawful g e ≡ true → in_place tk (eqb i 0) e ≡ false → Err (Misplaced d) ≡ r
-  judge_misplaced a b = sym (turn ∙ cond-true (lawful g e) _ _ a ∙ cond-false (in_place tk (eqb i 0) e) _ _ b)
-
-  pub judge_last : lawful g e ≡ true → in_place tk (eqb i 0) e ≡ true → last e ≡ true → ended ≡ r
-  judge_last a b c = sym (turn ∙ cond-true (lawful g e) _ _ a ∙ cond-true (in_place tk (eqb i 0) e) _ _ b ∙ cond-true (last e) _ _ c)
-
-  pub judge_step : lawful g e ≡ true → in_place tk (eqb i 0) e ≡ true → last e ≡ false → more ≡ r
-  judge_step a b c = sym (turn ∙ cond-true (lawful g e) _ _ a ∙ cond-true (in_place tk (eqb i 0) e) _ _ b ∙ cond-false (last e) _ _ c)
 
 -- keep: i of n descriptors stand before those of the list
 abbrev pub keep_each : Setup → ℕ → ℕ → ℕ → List ℕ → ℕ → List ℕ → List ℕ

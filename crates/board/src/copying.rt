@@ -18,6 +18,7 @@ fn set_at(out: &mut [u8], at: usize, value: u8)
 }
 
 // Copies the bytes of a descriptor's buffer to a place of the caller's one by one, as far as that goes.
+#[tactic(auto, unfolding(rules::specs::Table::span, rules::specs::Host::overlay))]
 fn copy_each<M: Memory>(m: &M, e: &Descriptor, out: &mut [u8], at: u32)
     ensures { out.new ≡ overlay out.old at (span (M.Memory.bytes m.now) e.now.start e.now.fill) }
 {
@@ -50,6 +51,7 @@ fn copy<M: Memory>(m: &M, e: &Descriptor, out: &mut [u8], at: u32)
 }
 
 // Copies a frame to the front of the caller's buffer.
+#[tactic(auto, using(crate::proofs::Rounds::bytes_is, crate::proofs::Rounds::length_numbers, rules::proofs::Overlays::overlay_append, rules::proofs::Overlays::overlay_none, rules::proofs::Overlays::length_span))]
 pub(crate) fn copy_run<M: Memory>(m: &M, g: &Setup, from: u8, count: u8, out: &mut [u8])
     ensures { out.new ≡ overlay out.old 0 (frame_bytes g.now (M.Memory.bytes m.now) from count) }
 {

@@ -108,6 +108,7 @@ fn keep_one<M: Memory>(m: &mut M, g: &Setup, d: u8, filled: u16, status: u8, sta
 }
 
 // Marks the descriptors of a kept arrival: `used` of them, from `curr` on.
+#[tactic(auto, using(crate::proofs::Rounds::keep_is))]
 pub(crate) fn keep_run<M: Memory>(m: &mut M, g: &Setup, curr: u8, filled: u16, status: u8, used: u8)
     ensures { M.Memory.bytes m.new ≡ kept_run g.now (M.Memory.bytes m.old) curr filled status true used }
 {

@@ -26,6 +26,7 @@ fn describe_one<M: Memory>(m: &mut M, rbegin: Page, d: usize, buffer: &Buffer)
 }
 
 // Writes one descriptor for each buffer.
+#[tactic(auto, unfolding(rules::specs::Opening::described))]
 pub(crate) fn describe<M: Memory>(m: &mut M, rbegin: Page, buffers: &[Buffer])
     requires { length buffers.now ≤ 64 }
     ensures { M.Memory.bytes m.new ≡ described rbegin.0 (M.Memory.bytes m.old) 0 buffers.now }

@@ -89,6 +89,7 @@ fn write(s: &mut State, register: Register, value: u8)
 }
 
 // The lowest bit set in both INTSTAT and INTMASK, by its number.
+#[tactic(auto, using(crate::proofs::Causes::lowest_both_none, crate::proofs::Causes::lowest_both_some))]
 fn lowest(intstat: u8, intmask: u8) -> Option<u8>
     ensures { result ≡ lowest_both intstat intmask }
 {

@@ -15,6 +15,7 @@ fn in_place(taking: bool, start: bool, e: &Descriptor) -> bool
 }
 
 // The frame whose run of descriptors begins at one, or what breaks it.
+#[tactic(auto, using(crate::proofs::Rounds::judge_is, crate::proofs::Rounds::length_numbers))]
 pub(crate) fn run<M: Memory>(m: &M, g: &Setup, from: u8, taking: bool) -> Result<Run, Break>
     ensures { result ≡ run_from g.now (M.Memory.bytes m.now) taking from }
 {

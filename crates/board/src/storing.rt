@@ -78,6 +78,7 @@ impl<M: Memory> Chip<M> {
     }
 
     // Stores the six bytes of the address in turn.
+    #[tactic(auto, unfolding(rules::specs::Arrivals::store_all))]
     pub(crate) fn store_all(&mut self, g: &Setup, bytes: &[u8; 6])
         ensures { seen M.Memory.bytes self.new ≡ all_stored g.now (seen M.Memory.bytes self.old) bytes.now }
     {

@@ -50,11 +50,6 @@ copy_step m out out' r a at n j h e p =
     let w : a + (j + 1) ≡ a + j + 1 = omega arith in
     (λ i. overlay (p i) (u i) (span m (w i) (n - (j + 1)))) ∙ sym (ap (λ (k : ℕ). overlay out (at + j) (span m (a + j) k)) z) ∙ e
 
-pub copy_all : (m out r : List ℕ) (a at n j : ℕ) → n ≤ j → overlay out (at + j) (span m (a + j) (n - j)) ≡ r → out ≡ r
-unfolding span overlay
-copy_all m out r a at n j h e =
-    let z : n - j ≡ 0 = omega arith in sym (ap (λ (k : ℕ). overlay out (at + j) (span m (a + j) k)) z) ∙ e
-
 -- the bytes of a frame, i of its n buffers being past
 pub frame_bytes_more : (g : Setup) (m : List ℕ) (d n i : ℕ) (e : Descriptor) → i < n → e ≡ descriptor g m d →
     frame_bytes g m d (n - i) ≡ span m e.start e.fill ++ frame_bytes g m (next g d) (n - (i + 1))

@@ -1,7 +1,7 @@
-use Rattle.std.proofs.Common.{◌≡◌, ◌∙◌, length, ap, inl, arith, rules}
+use Rattle.std.proofs.Common.{◌≡◌, ◌∙◌, length, ap, inl, arith}
 use Rattle.board.specs.Rounds.{numbers_left}
 use Rattle.board.specs.declared.round.Round.{Round}
-use Rattle.board.proofs.Rounds.{length_numbers, keep_is}
+use Rattle.board.proofs.Rounds.{length_numbers}
 use Rattle.board.proofs.descriptor.keep_run.Goals as goal
 
 pub loop-i-init-derived : goal.loop-i-init-derived
@@ -12,6 +12,3 @@ loop-i-init-derived g c =
     let count = ap (λ (r : Round). length (numbers_left r)) round ∙ length_numbers c.args.g.now c.args.curr c.args.used in
     let none = ap (λ x. x.count) i.ensures.into_iter_gives ∙ c.enumerate-i-items.ensures.count in
     ((tt, tt, inl (omega (arith, count, none))), tt)
-
-pub loop-i-init : goal.loop-i-init
-loop-i-init g c = search (rules, keep_is)

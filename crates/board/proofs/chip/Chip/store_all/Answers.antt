@@ -1,9 +1,6 @@
-use Rattle.std.proofs.Common.{sym, arith}
-use Rattle.board.proofs.Scans.{store_all_none, store_all_step}
+use Rattle.std.proofs.Common.{arith}
+use Rattle.board.proofs.Scans.{store_all_step}
 use Rattle.board.proofs.chip.Chip.store_all.Goals as goal
-
-pub loop-value-init : goal.loop-value-init
-loop-value-init g c = sym (store_all_none _ _)
 
 pub loop-value-preserved : goal.loop-value-preserved
 loop-value-preserved g c =
