@@ -1,6 +1,6 @@
--- The copy of a part of memory to a part of the caller's buffer as a whole.
+-- The copy of a part of memory to a part of the caller's buffer, as a whole and byte by byte.
 --   part    the part of the buffer, as it was
-use Rattle.std.proofs.Common.{◌≡◌, ℕ, ◌+◌, ◌-◌, ◌≤◌, Bool, true, false, cond, ◌&&◌, leb, List, ◌++◌, length, take, drop, Ok, Err, Result, sym, refl, ap, ◌∙◌, arith}
+use Rattle.std.proofs.Common.{◌≡◌, ℕ, suc, ◌+◌, ◌-◌, ◌≤◌, get_or, set, Bool, true, false, cond, ◌&&◌, leb, List, ◌++◌, length, take, drop, Ok, Err, Result, sym, refl, ap, ◌∙◌, arith}
 use borrow.Rule.Slice.PartMut.{put_mid, put_same}
 use Rattle.std.proofs.lemmas.List.Edits.{paste_all}
 use Rattle.std.proofs.lemmas.Slice.{put_mid-paste}
@@ -60,3 +60,16 @@ module _ (m out : List ℕ) (a : Address) (fill at : ℕ) (room : at + fill ≤ 
   pub whole_copied : (q : Bool) (r : Result (Unit {0}) Refusal) (ys : List ℕ) → q ≡ is_ok r → r ≡ slice_answer m a (length part) → ys ≡ slice_copied m a part →
       put_mid at (at + fill - at) out ys ≡ (if q then overlay out at (span m a.0 fill) else out)
   whole_copied q r ys is answer copied = copied_part q ys (passes q r is answer) copied
+
+-- one byte of a copy: from b to a, n bytes being left before it and n' after it
+pub copy_turn : (m out out' r : List ℕ) (a b n a' b' n' to from v : ℕ) → overlay out a (span m b n) ≡ r →
+    to ≡ a → a' ≡ to + 1 → from ≡ b → b' ≡ from + 1 → n' + 1 ≡ n → v ≡ get_or m from 0 → out' ≡ set out to v →
+    overlay out' a' (span m b' n') ≡ r
+unfolding span overlay
+copy_turn m out out' r a b n a' b' n' to from v inv p s q t z w x =
+    let k : n ≡ suc n' = omega arith in
+    let byte : v ≡ get_or m b 0 = w ∙ ap (λ (i : ℕ). get_or m i 0) q in
+    let turned : out' ≡ set out a (get_or m b 0) = x ∙ (λ j. set out (p j) (byte j)) in
+    let up : a' ≡ a + 1 = s ∙ ap (λ (i : ℕ). i + 1) p in
+    let on : b' ≡ b + 1 = t ∙ ap (λ (i : ℕ). i + 1) q in
+    (λ j. overlay (turned j) (up j) (span m (on j) n')) ∙ sym (ap (λ (i : ℕ). overlay out a (span m b i)) k) ∙ inv

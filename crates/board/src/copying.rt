@@ -22,10 +22,8 @@ fn set_at(out: &mut [u8], at: usize, value: u8)
 fn copy_each<M: Memory>(m: &M, e: &Descriptor, out: &mut [u8], at: u32)
     ensures { out.new ≡ overlay out.old at (span (M.Memory.bytes m.now) e.now.start e.now.fill) }
 {
-    // The offset counts in the memory and in the buffer at once.
-    for j in 0..e.fill as u32 {
-        let value = byte(m, Address(e.start as u32 + j));
-        set_at(out, (at as usize) + j as usize, value);
+    for (to, from) in (at as usize..).zip(e.start as u32..).take(e.fill as usize) {
+        set_at(out, to, byte(m, Address(from)));
     }
 }
 

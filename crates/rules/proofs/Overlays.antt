@@ -1,7 +1,5 @@
--- Parts of memory written over a list, and the steps of the loops that copy them.
---   -step   one turn, from what the callee promises
---   -all    after the last turn
-use Rattle.std.proofs.Common.{◌≡◌, ℕ, zero, suc, ◌+◌, ◌-◌, ◌<◌, ◌≤◌, List, [], ◌∷◌, ◌++◌, length, get_or, take, drop, set, sym, refl, ap, ◌∙◌, add-one, arith}
+-- Parts of memory written over a list.
+use Rattle.std.proofs.Common.{◌≡◌, ℕ, zero, suc, ◌+◌, ◌-◌, ◌<◌, ◌≤◌, List, [], ◌∷◌, ◌++◌, length, take, drop, set, sym, refl, ap, ◌∙◌, add-one, arith}
 use lib.Seq.{sets, sets-eq}
 use Rattle.std.proofs.lemmas.List.{append_assoc, length-append, length-set}
 use Rattle.rules.specs.declared.state.Setup.{Setup}
@@ -39,16 +37,6 @@ overlay_is_sets out at (x ∷ xs) = overlay_is_sets (set out at x) (at + 1) xs �
 pub overlay_parts : (out : List ℕ) (at : ℕ) (xs : List ℕ) → at + length xs ≤ length out →
     overlay out at xs ≡ take at out ++ (xs ++ drop (at + length xs) out)
 overlay_parts out at xs h = overlay_is_sets out at xs ∙ sets-eq xs out at h ∙ append_assoc (take at out) xs (drop (at + length xs) out)
-
--- the copy of one buffer, j of its n bytes being written
-pub copy_step : (m out out' r : List ℕ) (a at n j : ℕ) → j < n → overlay out (at + j) (span m (a + j) (n - j)) ≡ r → out' ≡ set out (at + j) (get_or m (a + j) 0) →
-    overlay out' (at + (j + 1)) (span m (a + (j + 1)) (n - (j + 1))) ≡ r
-unfolding span overlay
-copy_step m out out' r a at n j h e p =
-    let z : n - j ≡ suc (n - (j + 1)) = omega arith in
-    let u : at + (j + 1) ≡ at + j + 1 = omega arith in
-    let w : a + (j + 1) ≡ a + j + 1 = omega arith in
-    (λ i. overlay (p i) (u i) (span m (w i) (n - (j + 1)))) ∙ sym (ap (λ (k : ℕ). overlay out (at + j) (span m (a + j) k)) z) ∙ e
 
 -- the bytes of a frame, i of its n buffers being past
 pub frame_bytes_more : (g : Setup) (m : List ℕ) (d n i : ℕ) (e : Descriptor) → i < n → e ≡ descriptor g m d →
