@@ -169,9 +169,9 @@ impl<M: Memory> Chip<M> {
     }
 
     // Begins an arrival, where none is under way.
-    pub(crate) fn start(&mut self, setup: Option<Setup>) -> Result<(), Refusal>
-        ensures answer { result ≡ begin_answer (shown_with setup (seen M.Memory.bytes self.old)) }
-        ensures after { shown_with setup (seen M.Memory.bytes self.new) ≡ begin_after (shown_with setup (seen M.Memory.bytes self.old)) }
+    pub(crate) fn start(&mut self, setup: &Option<Setup>) -> Result<(), Refusal>
+        ensures answer { result ≡ begin_answer (shown_with setup.now (seen M.Memory.bytes self.old)) }
+        ensures after { shown_with setup.now (seen M.Memory.bytes self.new) ≡ begin_after (shown_with setup.now (seen M.Memory.bytes self.old)) }
     {
         if setup.is_none() {
             return Err(Refusal::Shut);
@@ -186,18 +186,18 @@ impl<M: Memory> Chip<M> {
     // An event, where an arrival is under way.
     pub(crate) fn event<R: Recogniser>(
         &mut self,
-        setup: Option<Setup>,
+        setup: &Option<Setup>,
         r: &R,
         event: Event,
     ) -> Result<(), Refusal>
-        ensures answer { result ≡ event_answer (shown_with setup (seen M.Memory.bytes self.old)) }
-        ensures after { shown_with setup (seen M.Memory.bytes self.new) ≡ event_after (R.Recogniser.members r.now) (shown_with setup (seen M.Memory.bytes self.old)) event }
+        ensures answer { result ≡ event_answer (shown_with setup.now (seen M.Memory.bytes self.old)) }
+        ensures after { shown_with setup.now (seen M.Memory.bytes self.new) ≡ event_after (R.Recogniser.members r.now) (shown_with setup.now (seen M.Memory.bytes self.old)) event }
     {
-        let g = setup.ok_or(Refusal::Shut)?;
+        let g = setup.as_ref().ok_or(Refusal::Shut)?;
         if idle(&self.state.phase) {
             return Err(Refusal::NoArrival);
         }
-        self.arrive(&g, r, event);
+        self.arrive(g, r, event);
         Ok(())
     }
 }

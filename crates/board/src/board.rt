@@ -124,7 +124,7 @@ impl<M: Memory, R: Recogniser> Board<M, R> {
         ensures same { self.new.recogniser ≡ self.old.recogniser }
         ensures keeps { Keeps (R.Recogniser.members self.old.recogniser) begins (plainly result) (shown M.Memory.bytes self.old) (shown M.Memory.bytes self.new) }
     {
-        self.chip.start(self.setup)
+        self.chip.start(&self.setup)
     }
 
     /// A byte of the arrival comes from the line.
@@ -135,7 +135,7 @@ impl<M: Memory, R: Recogniser> Board<M, R> {
         ensures keeps { Keeps (R.Recogniser.members self.old.recogniser) (byte_comes value) (plainly result) (shown M.Memory.bytes self.old) (shown M.Memory.bytes self.new) }
     {
         self.chip
-            .event(self.setup, &self.recogniser, Event::Byte(value))
+            .event(&self.setup, &self.recogniser, Event::Byte(value))
     }
 
     /// The arrival ends.
@@ -146,7 +146,7 @@ impl<M: Memory, R: Recogniser> Board<M, R> {
         ensures keeps { Keeps (R.Recogniser.members self.old.recogniser) (ends last) (plainly result) (shown M.Memory.bytes self.old) (shown M.Memory.bytes self.new) }
     {
         self.chip
-            .event(self.setup, &self.recogniser, Event::End(last))
+            .event(&self.setup, &self.recogniser, Event::End(last))
     }
 
     /// The arrival is aborted.
@@ -157,7 +157,7 @@ impl<M: Memory, R: Recogniser> Board<M, R> {
         ensures keeps { Keeps (R.Recogniser.members self.old.recogniser) (aborts fault) (plainly result) (shown M.Memory.bytes self.old) (shown M.Memory.bytes self.new) }
     {
         self.chip
-            .event(self.setup, &self.recogniser, Event::Abort(fault))
+            .event(&self.setup, &self.recogniser, Event::Abort(fault))
     }
 
     /// Takes the frame at HOST: copies it to the front of the caller's buffer, and answers its first descriptor,
@@ -170,7 +170,7 @@ impl<M: Memory, R: Recogniser> Board<M, R> {
         ensures keeps { Keeps (R.Recogniser.members self.old.recogniser) (takes (length out.old)) (received result out.new) (shown M.Memory.bytes self.old) (shown M.Memory.bytes self.new) }
         ensures reads_back { ReadsBackFrom (R.Recogniser.members self.old.recogniser) (shown M.Memory.bytes self.old) result out.new }
     {
-        self.chip.take(self.setup, out)
+        self.chip.take(&self.setup, out)
     }
 
     /// Releases the buffers of the taken frame that starts at a descriptor.
@@ -180,7 +180,7 @@ impl<M: Memory, R: Recogniser> Board<M, R> {
         ensures same { self.new.recogniser ≡ self.old.recogniser }
         ensures keeps { Keeps (R.Recogniser.members self.old.recogniser) (releases d) (plainly result) (shown M.Memory.bytes self.old) (shown M.Memory.bytes self.new) }
     {
-        self.chip.release(self.setup, d)
+        self.chip.release(&self.setup, d)
     }
 
     /// The byte at an address of board memory.
@@ -210,7 +210,7 @@ impl<M: Memory, R: Recogniser> Board<M, R> {
         ensures same { self.new.recogniser ≡ self.old.recogniser }
         ensures keeps { Keeps (R.Recogniser.members self.old.recogniser) (looks (reads hold.now.select.now at)) (plainly result) (shown M.Memory.bytes self.old) (shown M.Memory.bytes self.new) }
     {
-        self.chip.read_at(self.setup, hold.page(), at)
+        self.chip.read_at(&self.setup, hold.page(), at)
     }
 
     /// Writes the register at an address of the page that is held.
@@ -220,7 +220,7 @@ impl<M: Memory, R: Recogniser> Board<M, R> {
         ensures same { self.new.recogniser ≡ self.old.recogniser }
         ensures keeps { Keeps (R.Recogniser.members self.old.recogniser) (looks (writes hold.now.select.now at value)) (plainly result) (shown M.Memory.bytes self.old) (shown M.Memory.bytes self.new) }
     {
-        self.chip.write_at(self.setup, hold.page(), at, value)
+        self.chip.write_at(&self.setup, hold.page(), at, value)
     }
 
     /// The lowest bit that is set in both INTSTAT and INTMASK, by its number.
@@ -228,6 +228,6 @@ impl<M: Memory, R: Recogniser> Board<M, R> {
         ensures answer { result ≡ cause_answer (shown M.Memory.bytes self.now) }
         ensures keeps { Keeps (R.Recogniser.members self.now.recogniser) (looks asks_cause) (plainly result) (shown M.Memory.bytes self.now) (shown M.Memory.bytes self.now) }
     {
-        self.chip.lowest_cause(self.setup)
+        self.chip.lowest_cause(&self.setup)
     }
 }

@@ -51,16 +51,16 @@ impl<M: Memory> Chip<M> {
     // Takes the frame at HOST, and answers its first descriptor, how many it has, its length and its status.
     pub(crate) fn take(
         &mut self,
-        setup: Option<Setup>,
+        setup: &Option<Setup>,
         out: &mut [u8],
     ) -> Result<(u8, u8, u32, u8), Refusal>
-        ensures answer { result ≡ take_answer (shown_with setup (seen M.Memory.bytes self.old)) (take_judged (shown_with setup (seen M.Memory.bytes self.old)) (length out.old)) }
-        ensures after { shown_with setup (seen M.Memory.bytes self.new) ≡ take_after (shown_with setup (seen M.Memory.bytes self.old)) (take_judged (shown_with setup (seen M.Memory.bytes self.old)) (length out.old)) }
-        ensures copied { out.new ≡ take_out (shown_with setup (seen M.Memory.bytes self.old)) (take_judged (shown_with setup (seen M.Memory.bytes self.old)) (length out.old)) out.old }
+        ensures answer { result ≡ take_answer (shown_with setup.now (seen M.Memory.bytes self.old)) (take_judged (shown_with setup.now (seen M.Memory.bytes self.old)) (length out.old)) }
+        ensures after { shown_with setup.now (seen M.Memory.bytes self.new) ≡ take_after (shown_with setup.now (seen M.Memory.bytes self.old)) (take_judged (shown_with setup.now (seen M.Memory.bytes self.old)) (length out.old)) }
+        ensures copied { out.new ≡ take_out (shown_with setup.now (seen M.Memory.bytes self.old)) (take_judged (shown_with setup.now (seen M.Memory.bytes self.old)) (length out.old)) out.old }
     {
-        let g = setup.ok_or(Refusal::Shut)?;
-        let frame = self.takeable(&g, out.len())?;
-        Ok(self.hand_over(&g, frame, out))
+        let g = setup.as_ref().ok_or(Refusal::Shut)?;
+        let frame = self.takeable(g, out.len())?;
+        Ok(self.hand_over(g, frame, out))
     }
 
     // The taken frame that starts at a descriptor.
@@ -81,13 +81,13 @@ impl<M: Memory> Chip<M> {
     }
 
     // Frees the descriptors of the taken frame that starts at one.
-    pub(crate) fn release(&mut self, setup: Option<Setup>, d: u8) -> Result<(), Refusal>
-        ensures answer { result ≡ release_answer (release_judged (shown_with setup (seen M.Memory.bytes self.old)) d) }
-        ensures after { shown_with setup (seen M.Memory.bytes self.new) ≡ release_after (shown_with setup (seen M.Memory.bytes self.old)) d (release_judged (shown_with setup (seen M.Memory.bytes self.old)) d) }
+    pub(crate) fn release(&mut self, setup: &Option<Setup>, d: u8) -> Result<(), Refusal>
+        ensures answer { result ≡ release_answer (release_judged (shown_with setup.now (seen M.Memory.bytes self.old)) d) }
+        ensures after { shown_with setup.now (seen M.Memory.bytes self.new) ≡ release_after (shown_with setup.now (seen M.Memory.bytes self.old)) d (release_judged (shown_with setup.now (seen M.Memory.bytes self.old)) d) }
     {
-        let g = setup.ok_or(Refusal::Shut)?;
-        let frame = self.releasable(&g, d)?;
-        clear(&mut self.memory, &g, d, frame.count);
+        let g = setup.as_ref().ok_or(Refusal::Shut)?;
+        let frame = self.releasable(g, d)?;
+        clear(&mut self.memory, g, d, frame.count);
         Ok(())
     }
 

@@ -104,13 +104,13 @@ fn lowest(intstat: u8, intmask: u8) -> Option<u8>
 // The register calls, on a chip and what its open fixed.
 impl<M: Memory> Chip<M> {
     // Reads the register at an address of a page.
-    pub(crate) fn read_at(&mut self, setup: Option<Setup>, page: u8, at: u8) -> Result<u8, Refusal>
-        ensures answer { result ≡ read_answer (shown_with setup (seen M.Memory.bytes self.old)) page at }
-        ensures after { shown_with setup (seen M.Memory.bytes self.new) ≡ read_after (shown_with setup (seen M.Memory.bytes self.old)) page at }
+    pub(crate) fn read_at(&mut self, setup: &Option<Setup>, page: u8, at: u8) -> Result<u8, Refusal>
+        ensures answer { result ≡ read_answer (shown_with setup.now (seen M.Memory.bytes self.old)) page at }
+        ensures after { shown_with setup.now (seen M.Memory.bytes self.new) ≡ read_after (shown_with setup.now (seen M.Memory.bytes self.old)) page at }
     {
-        let g = setup.ok_or(Refusal::Shut)?;
+        let g = setup.as_ref().ok_or(Refusal::Shut)?;
         let register = to_read(page, at).ok_or(Refusal::NoRegister)?;
-        let value = value(&g, &self.state, register);
+        let value = value(g, &self.state, register);
         after_read(&mut self.state, register);
         Ok(value)
     }
@@ -118,13 +118,13 @@ impl<M: Memory> Chip<M> {
     // Writes the register at an address of a page.
     pub(crate) fn write_at(
         &mut self,
-        setup: Option<Setup>,
+        setup: &Option<Setup>,
         page: u8,
         at: u8,
         value: u8,
     ) -> Result<(), Refusal>
-        ensures answer { result ≡ write_answer (shown_with setup (seen M.Memory.bytes self.old)) page at }
-        ensures after { shown_with setup (seen M.Memory.bytes self.new) ≡ write_after (shown_with setup (seen M.Memory.bytes self.old)) page at value }
+        ensures answer { result ≡ write_answer (shown_with setup.now (seen M.Memory.bytes self.old)) page at }
+        ensures after { shown_with setup.now (seen M.Memory.bytes self.new) ≡ write_after (shown_with setup.now (seen M.Memory.bytes self.old)) page at value }
     {
         if setup.is_none() {
             return Err(Refusal::Shut);
@@ -135,8 +135,8 @@ impl<M: Memory> Chip<M> {
     }
 
     // The cause, of an open board.
-    pub(crate) fn lowest_cause(&self, setup: Option<Setup>) -> Result<Option<u8>, Refusal>
-        ensures { result ≡ cause_answer (shown_with setup (seen M.Memory.bytes self.now)) }
+    pub(crate) fn lowest_cause(&self, setup: &Option<Setup>) -> Result<Option<u8>, Refusal>
+        ensures { result ≡ cause_answer (shown_with setup.now (seen M.Memory.bytes self.now)) }
     {
         if setup.is_none() {
             return Err(Refusal::Shut);
