@@ -77,43 +77,37 @@ fn set_aside(s: &mut State, value: u8) -> Option<Due>
     None
 }
 
-impl<M: Memory> Chip<M> {
-    // What an event does at once in the phase that it finds, and what it leaves to be done.
-    fn act(&mut self, event: Event) -> Option<Due>
-        ensures { (g : Setup) (among : List ℕ → Bool) → left_done g among (seen M.Memory.bytes self.new) result ≡ handled g among (seen M.Memory.bytes self.old) self.old.state.phase event }
-    {
-        match (&mut self.state.phase, event) {
-            (Phase::Address { bytes: _, count: _ }, Event::Byte(value)) => set_aside(
-                &mut self.state,
-                value,
-            ),
-            (Phase::Storing(t), Event::Byte(value)) => {
-                if store_further(&mut self.memory, t, value) {
-                    None
-                } else {
-                    Some(Due::Buffer(value))
-                }
-            }
-            (Phase::Storing(_), Event::End(last)) => Some(Due::Verdict(last)),
-            (Phase::Storing(_), Event::Abort(Fault::Overrun)) => {
-                overrun(&mut self.state);
+// What an event does at once in the phase that it finds, and what it leaves to be done.
+fn act<M: Memory>(m: &mut M, s: &mut State, event: Event) -> Option<Due>
+    ensures { (g : Setup) (among : List ℕ → Bool) → left_done g among (view (M.Memory.bytes m.new) s.new) result ≡ handled g among (view (M.Memory.bytes m.old) s.old) s.old.phase event }
+{
+    match (&mut s.phase, event) {
+        (Phase::Address { bytes: _, count: _ }, Event::Byte(value)) => set_aside(s, value),
+        (Phase::Storing(t), Event::Byte(value)) => {
+            if store_further(m, t, value) {
                 None
-            }
-            (Phase::Idle | Phase::Ignored | Phase::Missed, Event::Byte(_)) => None,
-            (
-                Phase::Idle
-                | Phase::Address { bytes: _, count: _ }
-                | Phase::Ignored
-                | Phase::Missed,
-                Event::End(_) | Event::Abort(_),
-            )
-            | (Phase::Storing(_), Event::Abort(Fault::Collision)) => {
-                self.state.phase = Phase::Idle;
-                None
+            } else {
+                Some(Due::Buffer(value))
             }
         }
+        (Phase::Storing(_), Event::End(last)) => Some(Due::Verdict(last)),
+        (Phase::Storing(_), Event::Abort(Fault::Overrun)) => {
+            overrun(s);
+            None
+        }
+        (Phase::Idle | Phase::Ignored | Phase::Missed, Event::Byte(_)) => None,
+        (
+            Phase::Idle | Phase::Address { bytes: _, count: _ } | Phase::Ignored | Phase::Missed,
+            Event::End(_) | Event::Abort(_),
+        )
+        | (Phase::Storing(_), Event::Abort(Fault::Collision)) => {
+            s.phase = Phase::Idle;
+            None
+        }
     }
+}
 
+impl<M: Memory> Chip<M> {
     // Asks the recogniser about the address, of which the last byte has come.
     fn ask<R: Recogniser>(&mut self, g: &Setup, r: &R, value: u8)
         ensures { seen M.Memory.bytes self.new ≡ asked g.now (R.Recogniser.members r.now) (seen M.Memory.bytes self.old) self.old.state.phase value }
@@ -153,7 +147,7 @@ impl<M: Memory> Chip<M> {
     fn handle<R: Recogniser>(&mut self, g: &Setup, r: &R, event: Event)
         ensures { seen M.Memory.bytes self.new ≡ handled g.now (R.Recogniser.members r.now) (seen M.Memory.bytes self.old) self.old.state.phase event }
     {
-        if let Some(due) = self.act(event) {
+        if let Some(due) = act(&mut self.memory, &mut self.state, event) {
             self.carry_out(g, r, due);
         }
     }
