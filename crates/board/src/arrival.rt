@@ -78,6 +78,7 @@ fn set_aside(s: &mut State, value: u8) -> Option<Due>
 }
 
 // What an event does at once in the phase that it finds, and what it leaves to be done.
+#[inline]
 fn act<M: Memory>(m: &mut M, s: &mut State, event: Event) -> Option<Due>
     ensures { (g : Setup) (among : List ℕ → Bool) → left_done g among (view (M.Memory.bytes m.new) s.new) result ≡ handled g among (view (M.Memory.bytes m.old) s.old) s.old.phase event }
 {
@@ -129,6 +130,7 @@ impl<M: Memory> Chip<M> {
     }
 
     // Does what an event has left to be done.
+    #[cold]
     fn carry_out<R: Recogniser>(&mut self, g: &Setup, r: &R, due: Due)
         ensures { seen M.Memory.bytes self.new ≡ carried g.now (R.Recogniser.members r.now) (seen M.Memory.bytes self.old) self.old.state.phase due }
     {
@@ -144,6 +146,7 @@ impl<M: Memory> Chip<M> {
     }
 
     // What an event does, by the phase that it finds.
+    #[inline]
     fn handle<R: Recogniser>(&mut self, g: &Setup, r: &R, event: Event)
         ensures { seen M.Memory.bytes self.new ≡ handled g.now (R.Recogniser.members r.now) (seen M.Memory.bytes self.old) self.old.state.phase event }
     {
@@ -153,6 +156,7 @@ impl<M: Memory> Chip<M> {
     }
 
     // An event of the arrival under way. The CRC register runs over a byte last, as nothing else goes by the register.
+    #[inline]
     fn arrive<R: Recogniser>(&mut self, g: &Setup, r: &R, event: Event)
         ensures { seen M.Memory.bytes self.new ≡ arrives g.now (R.Recogniser.members r.now) (seen M.Memory.bytes self.old) event }
     {
@@ -178,6 +182,7 @@ impl<M: Memory> Chip<M> {
     }
 
     // An event, where an arrival is under way.
+    #[inline]
     pub(crate) fn event<R: Recogniser>(
         &mut self,
         setup: &Option<Setup>,

@@ -128,6 +128,7 @@ impl<M: Memory, R: Recogniser> Board<M, R> {
     }
 
     /// A byte of the arrival comes from the line.
+    #[inline]
     pub fn byte(&mut self, value: u8) -> Result<(), Refusal>
         ensures answer { result ≡ event_answer (shown M.Memory.bytes self.old) }
         ensures after { shown M.Memory.bytes self.new ≡ event_after (R.Recogniser.members self.old.recogniser) (shown M.Memory.bytes self.old) (Byte value) }

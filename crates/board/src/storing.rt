@@ -28,6 +28,7 @@ fn wanted(g: &Setup, s: &State, t: &Stored) -> u8
 }
 
 // Stores a byte at the next unused place of the latest buffer, and answers whether there was one.
+#[inline]
 pub(crate) fn store_further<M: Memory>(m: &mut M, t: &mut Stored, value: u8) -> bool
     ensures answer { result ≡ nat_lt t.old.filled t.old.length }
     ensures after { t.new ≡ (if result then further t.old else t.old) }
