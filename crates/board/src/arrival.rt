@@ -166,14 +166,15 @@ impl<M: Memory> Chip<M> {
         }
     }
 
+    // The calls of a chip are lent what its open fixed, as it may not be there: the board has it beside the chip, so that a
+    // shared borrow says that it stays.
+
     // Begins an arrival, where none is under way.
     pub(crate) fn start(&mut self, setup: &Option<Setup>) -> Result<(), Refusal>
         ensures answer { result ≡ begin_answer (shown_with setup.now (seen M.Memory.bytes self.old)) }
         ensures after { shown_with setup.now (seen M.Memory.bytes self.new) ≡ begin_after (shown_with setup.now (seen M.Memory.bytes self.old)) }
     {
-        if setup.is_none() {
-            return Err(Refusal::Shut);
-        }
+        setup.as_ref().ok_or(Refusal::Shut)?;
         if !idle(&self.state.phase) {
             return Err(Refusal::UnderWay);
         }

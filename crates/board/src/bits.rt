@@ -35,7 +35,7 @@ pub(crate) const SEP: u32 = 0;
 
 pub(crate) const RUNTS: u32 = 1;
 
-// Whether a bit of a byte is set.
+// Whether a bit of a byte is set. The station of `recogniser` has the same line: a crate for it alone is no plainer.
 pub(crate) fn has(bit: u32, byte: u8) -> bool
     requires { bit < 8 }
     ensures { result ≡ has_bit bit byte }

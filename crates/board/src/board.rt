@@ -1,6 +1,4 @@
-ghost use Rattle.std.specs.Prelude.{◌≡◌, length, Ok, slice_set};
-ghost use Rattle.memory.specs.Memory.{write_answer as write_answer_at};
-ghost use Rattle.rules.specs.Views.{view, with_view};
+ghost use Rattle.std.specs.Prelude.{◌≡◌, length, Ok};
 ghost use Rattle.layout.specs.Layouts.{shape};
 ghost use Rattle.rules.specs.declared.state.Event.TheVariants.{Byte, End, Abort};
 ghost use Rattle.rules.specs.Arrivals.{begin_answer, begin_after, event_answer, event_after};
@@ -72,7 +70,8 @@ impl<M: Memory, R: Recogniser> Board<M, R> {
         }
     }
 
-    // Whether the board can be opened with a layout and RCON, which `open` takes apart.
+    // Whether the board can be opened with a layout and RCON. These come to `open` apart, so a struct of them would be made
+    // and taken apart for its two halves.
     fn openable(&self, layout: &Layout, rcon: u8) -> Result<(), Refusal>
         ensures { result ≡ open_answer (length (M.Memory.bytes self.now.chip.memory)) (shape layout.now) rcon }
     {

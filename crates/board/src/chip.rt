@@ -1,4 +1,3 @@
-use memory::memory::Memory;
 use rules::state::State;
 
 // A board memory, with the registers, places and arrival of the board.

@@ -6,7 +6,7 @@ use crate::descriptor::{byte, descriptor};
 use crate::round::Round;
 use memory::address::Address;
 use memory::memory::Memory;
-use rules::state::{Descriptor, Setup};
+use rules::state::Descriptor;
 
 // Replaces the byte at a place of a buffer; past its end nothing changes.
 fn set_at(out: &mut [u8], at: usize, value: u8)
@@ -50,12 +50,12 @@ fn copy<M: Memory>(m: &M, e: &Descriptor, out: &mut [u8], at: u32)
 
 // Copies a frame to the front of the caller's buffer.
 #[tactic(auto, using(crate::proofs::Rounds::bytes_is, crate::proofs::Rounds::length_numbers, rules::proofs::Overlays::overlay_append, rules::proofs::Overlays::overlay_none, rules::proofs::Overlays::length_span))]
-pub(crate) fn copy_run<M: Memory>(m: &M, g: &Setup, from: u8, count: u8, out: &mut [u8])
-    ensures { out.new ≡ overlay out.old 0 (frame_bytes g.now (M.Memory.bytes m.now) from count) }
+pub(crate) fn copy_run<M: Memory>(m: &M, run: Round, out: &mut [u8])
+    ensures { out.new ≡ overlay out.old 0 (frame_bytes run.setup (M.Memory.bytes m.now) run.at run.left) }
 {
     let mut at = 0;
-    for d in Round::new(g, from, count) {
-        let e = descriptor(m, g, d);
+    for d in run {
+        let e = descriptor(m, &run.setup, d);
         copy(m, &e, out, at);
         at += e.fill as u32;
     }

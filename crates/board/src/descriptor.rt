@@ -107,12 +107,20 @@ fn keep_one<M: Memory>(m: &mut M, g: &Setup, d: u8, filled: u16, status: u8, sta
     write(m, g, d, flags, status, fill);
 }
 
-// Marks the descriptors of a kept arrival: `used` of them, from `curr` on.
+// Marks the descriptors of a kept arrival.
 #[tactic(auto, using(crate::proofs::Rounds::keep_is))]
-pub(crate) fn keep_run<M: Memory>(m: &mut M, g: &Setup, curr: u8, filled: u16, status: u8, used: u8)
-    ensures { M.Memory.bytes m.new ≡ kept_run g.now (M.Memory.bytes m.old) curr filled status true used }
+pub(crate) fn keep_run<M: Memory>(m: &mut M, run: Round, filled: u16, status: u8)
+    ensures { M.Memory.bytes m.new ≡ kept_run run.setup (M.Memory.bytes m.old) run.at filled status true run.left }
 {
-    for (i, d) in Round::new(g, curr, used).enumerate() {
-        keep_one(m, g, d, filled, status, i == 0, i + 1 == used as usize);
+    for (i, d) in run.enumerate() {
+        keep_one(
+            m,
+            &run.setup,
+            d,
+            filled,
+            status,
+            i == 0,
+            i + 1 == run.left as usize,
+        );
     }
 }

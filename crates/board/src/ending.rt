@@ -6,6 +6,7 @@ use crate::bits::{CRC, FAE, OVER, PRX, RUNTS, RXE, SEP, has, set};
 use crate::chip::Chip;
 use crate::counters::{count, count_lost};
 use crate::descriptor::{keep_run, next};
+use crate::round::Round;
 use memory::memory::Memory;
 use rules::state::{LastByte, Phase, Registers, Setup, State, Stored};
 
@@ -39,6 +40,7 @@ fn runt(g: &Setup, t: &Stored) -> bool
     t.total < SHORTEST_FRAME && !has(RUNTS, g.rcon)
 }
 
+// A function of its own, as `miss` is: they share `count_lost`, and differ in bits and phase.
 pub(crate) fn overrun(s: &mut State)
     ensures { s.new ≡ overrun_state s.old }
 {
@@ -51,14 +53,8 @@ impl<M: Memory> Chip<M> {
     fn keep(&mut self, g: &Setup, t: Stored)
         ensures { seen M.Memory.bytes self.new ≡ kept g.now (seen M.Memory.bytes self.old) t self.old.state.registers }
     {
-        keep_run(
-            &mut self.memory,
-            g,
-            self.state.curr,
-            t.filled,
-            self.state.registers.rstat,
-            t.used,
-        );
+        let run = Round::new(g, self.state.curr, t.used);
+        keep_run(&mut self.memory, run, t.filled, self.state.registers.rstat);
         self.state.curr = next(g, t.latest);
         self.state.phase = Phase::Idle;
     }

@@ -8,6 +8,7 @@ use crate::bits::{FIRST, HELD, TAKEN, has};
 use crate::chip::Chip;
 use crate::copying::copy_run;
 use crate::descriptor::{descriptor, lawful};
+use crate::round::Round;
 use crate::runs::{clear, mark_taken, run};
 use memory::address::Address;
 use memory::memory::Memory;
@@ -43,8 +44,9 @@ impl<M: Memory> Chip<M> {
         ensures copied { out.new ≡ take_out (shown_with (Some g.now) (seen M.Memory.bytes self.old)) (Ok frame) out.old }
     {
         let first = self.state.host;
-        copy_run(&self.memory, g, first, frame.count, out);
-        self.state.host = mark_taken(&mut self.memory, g, first, frame.count);
+        let run = Round::new(g, first, frame.count);
+        copy_run(&self.memory, run, out);
+        self.state.host = mark_taken(&mut self.memory, run);
         (first, frame.count, frame.length, frame.status)
     }
 
@@ -87,7 +89,7 @@ impl<M: Memory> Chip<M> {
     {
         let g = setup.as_ref().ok_or(Refusal::Shut)?;
         let frame = self.releasable(g, d)?;
-        clear(&mut self.memory, g, d, frame.count);
+        clear(&mut self.memory, Round::new(g, d, frame.count));
         Ok(())
     }
 

@@ -25,7 +25,7 @@ fn describe_one<M: Memory>(m: &mut M, rbegin: Page, d: usize, buffer: &Buffer)
     put(m, Address(p + 7), 0);
 }
 
-// Writes one descriptor for each buffer.
+// Writes one descriptor for each buffer, by the buffers with their index: a rule of the project.
 #[tactic(auto, unfolding(rules::specs::Opening::described))]
 pub(crate) fn describe<M: Memory>(m: &mut M, rbegin: Page, buffers: &[Buffer])
     requires { length buffers.now ≤ 64 }

@@ -126,9 +126,7 @@ impl<M: Memory> Chip<M> {
         ensures answer { result ≡ write_answer (shown_with setup.now (seen M.Memory.bytes self.old)) page at }
         ensures after { shown_with setup.now (seen M.Memory.bytes self.new) ≡ write_after (shown_with setup.now (seen M.Memory.bytes self.old)) page at value }
     {
-        if setup.is_none() {
-            return Err(Refusal::Shut);
-        }
+        setup.as_ref().ok_or(Refusal::Shut)?;
         let register = to_write(page, at).ok_or(Refusal::NoRegister)?;
         write(&mut self.state, register, value);
         Ok(())
@@ -138,9 +136,7 @@ impl<M: Memory> Chip<M> {
     pub(crate) fn lowest_cause(&self, setup: &Option<Setup>) -> Result<Option<u8>, Refusal>
         ensures { result ≡ cause_answer (shown_with setup.now (seen M.Memory.bytes self.now)) }
     {
-        if setup.is_none() {
-            return Err(Refusal::Shut);
-        }
+        setup.as_ref().ok_or(Refusal::Shut)?;
         Ok(lowest(self.state.registers.intstat, self.state.registers.intmask))
     }
 }

@@ -7,9 +7,9 @@ use rules::state::Setup;
 // The numbers of so many descriptors, from one on, in their order round the table.
 #[derive(Clone, Copy)]
 pub(crate) struct Round {
-    setup: Setup,
-    at: u8,
-    left: u8,
+    pub setup: Setup,
+    pub at: u8,
+    pub left: u8,
 }
 
 impl Round {

@@ -44,15 +44,13 @@ pub(crate) fn run<M: Memory>(m: &M, g: &Setup, from: u8, taking: bool) -> Result
     Err(Break::Endless(latest))
 }
 
-// Take and release have a run's start and its number of descriptors from different places, so they stand apart below.
-
 // Frees the descriptors of a run.
 #[tactic(auto, using(crate::proofs::Rounds::clear_is))]
-pub(crate) fn clear<M: Memory>(m: &mut M, g: &Setup, from: u8, count: u8)
-    ensures { M.Memory.bytes m.new ≡ clear_run g.now (M.Memory.bytes m.old) from count }
+pub(crate) fn clear<M: Memory>(m: &mut M, run: Round)
+    ensures { M.Memory.bytes m.new ≡ clear_run run.setup (M.Memory.bytes m.old) run.at run.left }
 {
-    for d in Round::new(g, from, count) {
-        write(m, g, d, 0, 0, 0);
+    for d in run {
+        write(m, &run.setup, d, 0, 0, 0);
     }
 }
 
@@ -65,16 +63,16 @@ fn take_one<M: Memory>(m: &mut M, g: &Setup, d: u8)
     put(m, p, flags);
 }
 
-// Sets TAKEN in the descriptors of a run, and answers the descriptor after it.
+// Sets TAKEN in the descriptors of a run, and answers the descriptor after it, of which the loop is not told.
 #[tactic(auto, using(crate::proofs::Rounds::take_is, crate::proofs::Rounds::onward_is))]
-pub(crate) fn mark_taken<M: Memory>(m: &mut M, g: &Setup, from: u8, count: u8) -> u8
-    ensures after { M.Memory.bytes m.new ≡ take_run g.now (M.Memory.bytes m.old) from count }
-    ensures value { result ≡ onward g.now from count }
+pub(crate) fn mark_taken<M: Memory>(m: &mut M, run: Round) -> u8
+    ensures after { M.Memory.bytes m.new ≡ take_run run.setup (M.Memory.bytes m.old) run.at run.left }
+    ensures value { result ≡ onward run.setup run.at run.left }
 {
-    let mut after = from;
-    for d in Round::new(g, from, count) {
-        take_one(m, g, d);
-        after = next(g, d);
+    let mut after = run.at;
+    for d in run {
+        take_one(m, &run.setup, d);
+        after = next(&run.setup, d);
     }
     after
 }

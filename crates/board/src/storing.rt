@@ -10,6 +10,7 @@ use memory::address::Address;
 use memory::memory::Memory;
 use rules::state::{Phase, Setup, State, Stored};
 
+// A function of its own, as `overrun` is: they share `count_lost`, and differ in bits and phase.
 pub(crate) fn miss(s: &mut State)
     ensures { s.new ≡ missed s.old }
 {

@@ -29,7 +29,8 @@ pub(crate) enum Answer {
     Address(Option<u8>, bool),
 }
 
-/// A refusal's number and place.
+/// A refusal's number and place: the numbers are the rules', so they stand in the table. The same as in `trials`: a library
+/// for it alone is no plainer.
 #[derive(Clone, Copy, PartialEq, Eq, Debug)]
 pub(crate) struct Refused(pub u8, pub u32);
 

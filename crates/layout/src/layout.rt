@@ -16,7 +16,7 @@ pub struct Layout {
     rbegin: Page,
     rend: Page,
     count: usize,
-    // With `count`, and no `Vec`: a layout has at most 64 buffers, and nothing here allocates.
+    // An array with `count`: the project's form where the subject has the bound, here 64 buffers.
     buffers: [Buffer; 64],
     ghost few: { (count ≤ 32 * (rend.0 - rbegin.0)) × (rbegin.0 ≤ rend.0) × (rend.0 ≤ rbegin.0 + 2) },
     ghost apart: { sound size rbegin rend [] (take count buffers) ≡ true },

@@ -79,7 +79,7 @@ pub struct Stored {
 pub enum Phase {
     Idle,
     /// Fewer than six bytes have come: these, and how many.
-    // An array with a count: a board has fixed memory, and a byte never fails for want of it.
+    // An array with a count: a phase is copied, a board has fixed memory, and a byte never fails for want of it.
     Address { bytes: [u8; 6], count: u8 },
     Storing(Stored),
     Ignored,

@@ -91,6 +91,7 @@ fn group_frame(rt: HostRuntime) {
     );
 }
 
+// The numbers are the rules', 0 for a call that is accepted, so they stand as numbers.
 #[test]
 fn sheet_members(rt: HostRuntime) {
     let mut entries = [OTHER; 2];

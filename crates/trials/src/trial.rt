@@ -91,7 +91,8 @@ pub(crate) enum Answer {
     Holds([u8; 12]),
 }
 
-/// A refusal's number and place. The same as in `example_runs`: a library for it alone is no plainer.
+/// A refusal's number and place: the numbers are the rules', so they stand in the lists. The same as in `example_runs`: a
+/// library for it alone is no plainer.
 #[derive(Clone, Copy, PartialEq, Debug)]
 pub(crate) struct Refused(pub u8, pub u32);
 

@@ -17,7 +17,7 @@ const BROAD: u32 = 2;
 /// The broadcast address.
 const BROADCAST: [u8; 6] = [0xFF; 6];
 
-/// Whether the bit at `place` is set. A mask in place of the shift would be no plainer.
+/// Whether the bit at `place` is set. The board has the same line: a crate for it alone is no plainer.
 fn bit(byte: u8, place: u32) -> bool
     requires place { place < 8 }
     ensures value { result ≡ bit byte place }

@@ -7,7 +7,7 @@ use Rattle.board.proofs.copying.copy_run.Given as goal
 
 abbrev pub invariant-loop-d : goal.invariant-loop-d
 invariant-loop-d g l =
-    (overlay l.out l.at (bytes_of l.g (g.M.Memory.bytes l.m) (numbers_left l.d-iterator))
-    ≡ overlay l.initial.out 0 (frame_bytes l.g (g.M.Memory.bytes l.m) l.from l.count))
-    × (length l.yielded + length (numbers_left l.d-iterator) ≡ l.count)
+    (overlay l.out l.at (bytes_of l.run.setup (g.M.Memory.bytes l.m) (numbers_left l.d-iterator))
+    ≡ overlay l.initial.out 0 (frame_bytes l.run.setup (g.M.Memory.bytes l.m) l.run.at l.run.left))
+    × (length l.yielded + length (numbers_left l.d-iterator) ≡ l.run.left)
     × (l.at ≤ 65535 * length l.yielded)

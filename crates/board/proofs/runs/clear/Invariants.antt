@@ -7,5 +7,5 @@ use Rattle.board.proofs.runs.clear.Given as goal
 
 abbrev pub invariant-loop-d : goal.invariant-loop-d
 invariant-loop-d g l =
-    fold (clear_one l.g) (g.M.Memory.bytes l.m) (numbers_left l.d-iterator)
-    ≡ clear_run l.g (g.M.Memory.bytes l.initial.m) l.from l.count
+    fold (clear_one l.run.setup) (g.M.Memory.bytes l.m) (numbers_left l.d-iterator)
+    ≡ clear_run l.run.setup (g.M.Memory.bytes l.initial.m) l.run.at l.run.left

@@ -7,5 +7,5 @@ use Rattle.board.proofs.runs.mark_taken.Given as goal
 
 abbrev pub invariant-loop-d : goal.invariant-loop-d
 invariant-loop-d g l =
-    (fold (take_one l.g) (g.M.Memory.bytes l.m) (numbers_left l.d-iterator) ≡ take_run l.g (g.M.Memory.bytes l.initial.m) l.from l.count)
-    × (fold (after l.g) l.after (numbers_left l.d-iterator) ≡ onward l.g l.from l.count)
+    (fold (take_one l.run.setup) (g.M.Memory.bytes l.m) (numbers_left l.d-iterator) ≡ take_run l.run.setup (g.M.Memory.bytes l.initial.m) l.run.at l.run.left)
+    × (fold (after l.run.setup) l.after (numbers_left l.d-iterator) ≡ onward l.run.setup l.run.at l.run.left)
