@@ -12,7 +12,8 @@ impl<P: Print> Bench<'_, P> {
         Ok(())
     }
 
-    /// A layout for 512 bytes: a table of one page, and three buffers of four bytes.
+    /// A layout for 512 bytes: a table of one page, and three buffers of four bytes. The other programs and the tests have
+    /// it too, without the printing: a library for it is no plainer.
     pub(crate) fn layout(&self) -> Result<Layout, Stop> {
         let mut layout = Layout::blank();
         layout.table(512, Page(0), Page(1))?;

@@ -40,7 +40,7 @@ impl fmt::Display for Flags {
 }
 
 impl<P: Print> Bench<'_, P> {
-    // The eight bytes of a descriptor.
+    // The eight bytes of a descriptor. The same as in `trials`: a library for it alone is no plainer.
     fn descriptor(&self, number: u8) -> Result<[u8; 8], Refusal> {
         let start = RBEGIN.start().0 + 8 * number as u32;
         array::try_from_fn(|at| self.board.peek(Address(start + at as u32)))

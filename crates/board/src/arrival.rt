@@ -109,6 +109,8 @@ fn act<M: Memory>(m: &mut M, s: &mut State, event: Event) -> Option<Due>
 }
 
 impl<M: Memory> Chip<M> {
+    // Setup and recogniser come by shared borrows of their own, which say that both stay.
+
     // Asks the recogniser about the address, of which the last byte has come.
     fn ask<R: Recogniser>(&mut self, g: &Setup, r: &R, value: u8)
         ensures { seen M.Memory.bytes self.new ≡ asked g.now (R.Recogniser.members r.now) (seen M.Memory.bytes self.old) self.old.state.phase value }

@@ -8,6 +8,9 @@ use memory::address::Address;
 use memory::memory::Memory;
 use rules::state::Descriptor;
 
+// A memory, a descriptor, the caller's buffer and a place in it: nothing else has them together, so no struct is made of
+// them for the three functions that copy.
+
 // Replaces the byte at a place of a buffer; past its end nothing changes.
 fn set_at(out: &mut [u8], at: usize, value: u8)
     ensures { out.new ≡ slice_set out.old at value }

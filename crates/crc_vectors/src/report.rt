@@ -19,7 +19,7 @@ pub(crate) fn heading(rt: &HostRuntime, title: &str) -> io::Result<()> {
     println!(rt; "{title:<26} expected slice    byte     second")
 }
 
-/// The base of the printed numbers.
+/// The base of the printed numbers. The callers name it, so it is a value.
 #[derive(Clone, Copy)]
 pub(crate) enum Base {
     Decimal,

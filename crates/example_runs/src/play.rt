@@ -87,7 +87,7 @@ fn answer<M: Memory>(board: &mut Board<M, Station>, call: Call) -> Outcome {
     Ok(Answer::Done)
 }
 
-// The layout of the bench: three buffers of four bytes.
+// The layout of the bench: three buffers of four bytes. It stands in `bench` and `trials` too: a library for it is no plainer.
 fn bench_layout() -> Result<Layout, Refusal> {
     let mut layout = Layout::blank();
     layout.table(512, Page(0), Page(1))?;

@@ -58,7 +58,7 @@ pub(crate) struct Addition {
     pub outcome: Outcome,
 }
 
-/// What an example does, and what must come of it.
+/// What an example does, and what must come of it. The table lists examples, so they are values.
 #[derive(Clone, Copy)]
 pub(crate) enum Example {
     Run(Run),

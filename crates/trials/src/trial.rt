@@ -35,7 +35,7 @@ pub(crate) const BROADCAST: Station = Station {
     table: [0; 8],
 };
 
-/// A layout that a board is opened with.
+/// A layout that a board is opened with. The lists name it, so it is a value.
 #[derive(Clone, Copy)]
 pub(crate) enum Plan {
     /// No table and no buffer.
@@ -105,6 +105,7 @@ impl From<Refusal> for Refused {
 /// What a call answers.
 pub(crate) type Outcome = Result<Answer, Refused>;
 
+// The buffers of the bench, which `bench` and `example_runs` have too: a library for them is no plainer.
 fn three_buffers(layout: &mut Layout, size: u32) -> Result<(), Refusal> {
     layout.table(size, Page(0), Page(1))?;
     layout.add(Address(256), 4)?;
@@ -183,6 +184,7 @@ impl<M: Memory, R: Recogniser> Bench<M, R> {
         self.board.write_register(&hold, at, value)
     }
 
+    // The same as in `bench`: a library for it alone is no plainer.
     fn descriptor(&self, number: u8) -> Result<[u8; 8], Refusal> {
         let start = 8 * number as u32;
         array::try_from_fn(|at| self.board.peek(Address(start + at as u32)))
