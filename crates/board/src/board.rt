@@ -188,7 +188,7 @@ impl<M: Memory, R: Recogniser> Board<M, R> {
         ensures answer { result ≡ peek_answer (shown M.Memory.bytes self.now) at.0 }
         ensures keeps { Keeps (R.Recogniser.members self.now.recogniser) (looks (peeks at.0)) (plainly result) (shown M.Memory.bytes self.now) (shown M.Memory.bytes self.now) }
     {
-        self.chip.memory.read(at)
+        self.chip.read(at)
     }
 
     /// Replaces the byte at an address of board memory, while no arrival is under way.

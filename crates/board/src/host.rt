@@ -1,5 +1,5 @@
 ghost use Rattle.std.specs.Prelude.{◌≡◌, length, Ok, Some, slice_set};
-ghost use Rattle.memory.specs.Memory.{write_answer};
+ghost use Rattle.memory.specs.Memory.{read_answer, write_answer};
 ghost use Rattle.rules.specs.Views.{view};
 ghost use Rattle.rules.specs.Host.{take_judged, take_answer, take_after, take_out, release_judged, release_answer, release_after};
 ghost use Rattle.board.specs.Shown.{seen, shown_with};
@@ -91,6 +91,13 @@ impl<M: Memory> Chip<M> {
         let frame = self.releasable(g, d)?;
         clear(&mut self.memory, Round::new(g, d, frame.count));
         Ok(())
+    }
+
+    // The byte at an address.
+    pub(crate) fn read(&self, at: Address) -> Result<u8, Refusal>
+        ensures { result ≡ read_answer (M.Memory.bytes self.now.memory) at }
+    {
+        self.memory.read(at)
     }
 
     // Replaces the byte at an address.
