@@ -205,20 +205,20 @@ impl<M: Memory, R: Recogniser> Board<M, R> {
 
     /// Reads the register at an address of the page that is held. Reading a counter sets it to 0.
     pub fn read_register(&mut self, hold: &Hold, at: u8) -> Result<u8, Refusal>
-        ensures answer { result ≡ read_answer (shown M.Memory.bytes self.old) hold.now.select.now at }
-        ensures after { shown M.Memory.bytes self.new ≡ read_after (shown M.Memory.bytes self.old) hold.now.select.now at }
+        ensures answer { result ≡ read_answer (shown M.Memory.bytes self.old) hold.now.select.now.page at }
+        ensures after { shown M.Memory.bytes self.new ≡ read_after (shown M.Memory.bytes self.old) hold.now.select.now.page at }
         ensures same { self.new.recogniser ≡ self.old.recogniser }
-        ensures keeps { Keeps (R.Recogniser.members self.old.recogniser) (looks (reads hold.now.select.now at)) (plainly result) (shown M.Memory.bytes self.old) (shown M.Memory.bytes self.new) }
+        ensures keeps { Keeps (R.Recogniser.members self.old.recogniser) (looks (reads hold.now.select.now.page at)) (plainly result) (shown M.Memory.bytes self.old) (shown M.Memory.bytes self.new) }
     {
         self.chip.read_at(&self.setup, hold.page(), at)
     }
 
     /// Writes the register at an address of the page that is held.
     pub fn write_register(&mut self, hold: &Hold, at: u8, value: u8) -> Result<(), Refusal>
-        ensures answer { result ≡ write_answer (shown M.Memory.bytes self.old) hold.now.select.now at }
-        ensures after { shown M.Memory.bytes self.new ≡ write_after (shown M.Memory.bytes self.old) hold.now.select.now at value }
+        ensures answer { result ≡ write_answer (shown M.Memory.bytes self.old) hold.now.select.now.page at }
+        ensures after { shown M.Memory.bytes self.new ≡ write_after (shown M.Memory.bytes self.old) hold.now.select.now.page at value }
         ensures same { self.new.recogniser ≡ self.old.recogniser }
-        ensures keeps { Keeps (R.Recogniser.members self.old.recogniser) (looks (writes hold.now.select.now at value)) (plainly result) (shown M.Memory.bytes self.old) (shown M.Memory.bytes self.new) }
+        ensures keeps { Keeps (R.Recogniser.members self.old.recogniser) (looks (writes hold.now.select.now.page at value)) (plainly result) (shown M.Memory.bytes self.old) (shown M.Memory.bytes self.new) }
     {
         self.chip.write_at(&self.setup, hold.page(), at, value)
     }

@@ -1,35 +1,28 @@
 #![tactic(auto)]
 
-ghost use Rattle.std.specs.Prelude.{◌≡◌, ℕ, ◌%◌, ◌<◌};
+ghost use Rattle.std.specs.Prelude.{◌≡◌, ◌%◌, ◌<◌};
 
-use std::marker::Model;
 use std::mem;
 
 /// The record of the current register page, 0 to 3.
+// With an `impl Model` a caller's proof would lose the bound, or that records at one page are equal.
 #[derive(Drop)]
 pub struct Select {
     page: u8,
-}
-
-impl Model for Select {
-    ghost Value = { ℕ };
-
-    ghost view = { λ s. s.page };
-
-    ghost invariant = { λ s. s.page < 4 };
+    ghost ok: { page < 4 },
 }
 
 impl Select {
     /// A record at page 0.
     pub fn new() -> Select
-        ensures value { result ≡ 0 }
+        ensures value { result.page ≡ 0 }
     {
         Select { page: 0 }
     }
 
     /// The current page.
     pub fn page(&self) -> u8
-        ensures answer { result ≡ self.now }
+        ensures answer { result ≡ self.now.page }
         ensures bound { result < 4 }
     {
         self.page
@@ -37,7 +30,7 @@ impl Select {
 
     /// Sets the current page. Of the number only the two lowest bits count.
     pub fn select(&mut self, number: u8)
-        ensures after { self.new ≡ number % 4 }
+        ensures after { self.new.page ≡ number % 4 }
     {
         *self = Select { page: number % 4 };
     }
@@ -65,7 +58,7 @@ impl Drop for Hold<'_> {
 impl<'a> Hold<'a> {
     /// Holds the record at a page. Of the number only the two lowest bits count.
     pub fn new(select: &'a mut Select, number: u8) -> Hold<'a>
-        ensures page { result.select.now ≡ number % 4 }
+        ensures page { result.select.now.page ≡ number % 4 }
         ensures lent { result.select.ghost_name ≡ select.entry.ghost_name }
         ensures earlier { result.earlier ≡ select.old }
     {
@@ -76,7 +69,7 @@ impl<'a> Hold<'a> {
 
     /// The page that the record shows.
     pub fn page(&self) -> u8
-        ensures answer { result ≡ self.now.select.now }
+        ensures answer { result ≡ self.now.select.now.page }
         ensures bound { result < 4 }
     {
         self.select.page()

@@ -1,4 +1,4 @@
-ghost use Rattle.std.specs.Prelude.{◌≡◌, ◌%◌};
+ghost use Rattle.std.specs.Prelude.{◌≡◌, ◌%◌, ◌<◌};
 
 use crate::{Hold, Select};
 
@@ -72,6 +72,21 @@ fn by_turns(select: &mut Select, first: u8, second: u8) -> (u8, u8)
     (shown, hold.page())
 }
 
+// That a page is below 4 is known of every record, also of the two that a hold has, with no call.
+fn known_below_four(select: &Select, hold: &Hold)
+    ensures shown { select.now.page < 4 }
+    ensures held { hold.now.select.now.page < 4 }
+    ensures earlier { hold.now.earlier.page < 4 }
+{}
+
+// Records at the same page are equal as a whole.
+fn both_select(first: &mut Select, second: &mut Select, number: u8)
+    ensures same { first.new ≡ second.new }
+{
+    first.select(number);
+    second.select(number);
+}
+
 #[test]
 fn earlier_page_is_back(rt: HostRuntime) {
     let mut select = Select::new();
@@ -82,4 +97,20 @@ fn earlier_page_is_back(rt: HostRuntime) {
     assert!(rt; by_return(&mut select, 7) == 0 && select.page() == 2);
     assert!(rt; by_question_mark(&mut select, 1) == Err(1) && select.page() == 2);
     assert!(rt; by_turns(&mut select, 3, 4) == (3, 0) && select.page() == 2);
+}
+
+#[test]
+fn bound_needs_no_call(rt: HostRuntime) {
+    let mut select = Select::new();
+    let hold = Hold::new(&mut select, 7);
+    known_below_four(&Select::new(), &hold);
+    assert!(rt; hold.page() == 3);
+}
+
+#[test]
+fn records_are_equal_by_page(rt: HostRuntime) {
+    let mut first = Select::new();
+    let mut second = Select::new();
+    both_select(&mut first, &mut second, 6);
+    assert!(rt; first.page() == 2 && second.page() == 2);
 }
