@@ -1,5 +1,5 @@
 -- The register after a list of bytes, by the parts of the list and by the parts of the register.
-use Rattle.std.proofs.Common.{◌≡◌, ℕ, zero, suc, ◌+◌, ◌*◌, ◌^◌, ◌<◌, List, [], ◌∷◌, ◌++◌, length, take, drop, refl, ap, ◌∙◌, fold, arith}
+use Rattle.std.proofs.Common.{◌≡◌, ℕ, zero, suc, ◌+◌, ◌*◌, ◌/◌, ◌^◌, ◌<◌, List, [], ◌∷◌, ◌++◌, length, take, drop, refl, sym, ap, ◌∙◌, fold, arith}
 use Rattle.std.specs.Simd.{first_chunks}
 use Rattle.std.proofs.lemmas.List.{take-append-drop, drop-drop}
 use lib.Bits.{bit_xor}
@@ -41,3 +41,10 @@ crc_over_chunks r (suc k) bs =
     let tail = drop-drop (k * 8) 8 bs in
     let size : suc k * 8 ≡ 8 + k * 8 = omega arith in
     cc
+
+-- the bytes as whole chunks of eight and the rest
+pub crc_over_eights : (r : ℕ) (bs : List ℕ) (chunks : List (List ℕ)) (rest : List ℕ)
+    → chunks ≡ first_chunks 8 (length bs / 8) bs
+    → rest ≡ drop (length bs / 8 * 8) bs
+    → crc_over (fold crc_over r chunks) rest ≡ crc_over r bs
+crc_over_eights r bs chunks rest front back = rw (front, back) (sym (crc_over_chunks r (length bs / 8) bs))

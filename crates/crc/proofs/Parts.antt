@@ -1,6 +1,6 @@
 -- Eight bytes at once: the XOR of what each byte of the register and each data byte makes alone.
-use Rattle.std.proofs.Common.{◌≡◌, ℕ, suc, ◌*◌, ◌/◌, ◌%◌, ◌^◌, ◌<◌, List, [], ◌∷◌, length, get_or, sym, refl, ap, ◌∙◌, ap₂, arith}
-use lib.Bits.{bit_xor, xor_comm, xor_zero_r, xor_shifted}
+use Rattle.std.proofs.Common.{◌≡◌, ℕ, suc, ◌+◌, ◌*◌, ◌/◌, ◌%◌, ◌^◌, ◌<◌, List, [], ◌∷◌, length, get_or, sym, refl, ap, ◌∙◌, ap₂, arith}
+use lib.Bits.{bit_xor, xor_comm, xor_assoc, xor_zero_r, xor_shifted}
 use Rattle.std.proofs.lemmas.List.{same_lists, places}
 use Rattle.crc.specs.Crc.{crc_bits, crc_byte, crc_over}
 use Rattle.crc.proofs.Linear.{bits_xor, crc_byte_lt}
@@ -21,7 +21,7 @@ abbrev pub data_xor : List ℕ → ℕ
 data_xor [] = 0
 data_xor (b ∷ bs) = bit_xor (crc_bits (8 * suc (length bs)) 0 b) (data_xor bs)
 
-data_by_bytes : (bs : List ℕ) → Bytes bs → crc_over 0 bs ≡ data_xor bs
+pub data_by_bytes : (bs : List ℕ) → Bytes bs → crc_over 0 bs ≡ data_xor bs
 unfolding crc_over
 data_by_bytes [] all = refl
 data_by_bytes (b ∷ bs) all =
@@ -40,41 +40,53 @@ data_of_eight bs e all = ap (crc_over 0) (eight_elements bs e) ∙ data_by_bytes
 
 pub register_by_bytes : (k r : ℕ) → r < 2 ^ 32
     → crc_bits k r 0
-    ≡ bit_xor (bit_xor (bit_xor (crc_bits k (r % 2 ^ 8 * 2 ^ 0) 0) (crc_bits k (r / 2 ^ 8 % 2 ^ 8 * 2 ^ 8) 0))
-    (crc_bits k (r / 2 ^ 16 % 2 ^ 8 * 2 ^ 16) 0))
-    (crc_bits k (r / 2 ^ 24 % 2 ^ 8 * 2 ^ 24) 0)
+    ≡ bit_xor (bit_xor (crc_bits k (r / 2 ^ 24 * 2 ^ 24) 0) (crc_bits k (r / 2 ^ 16 % 2 ^ 8 * 2 ^ 16) 0))
+    (bit_xor (crc_bits k (r / 2 ^ 8 % 2 ^ 8 * 2 ^ 8) 0) (crc_bits k (r % 2 ^ 8 * 2 ^ 0) 0))
 register_by_bytes k r h =
-    ap (λ (n : ℕ). crc_bits k n 0) (sym all_four)
-    ∙ bits_xor k (bit_xor (bit_xor r₀ r₁) r₂) r₃ 0 0 (omega (arith, lower_three)) (omega arith)
-    ∙ ap (λ (n : ℕ). bit_xor n (crc_bits k r₃ 0))
-    (bits_xor k (bit_xor r₀ r₁) r₂ 0 0 (omega (arith, lower_two)) (omega arith)
-    ∙ ap (λ (n : ℕ). bit_xor n (crc_bits k r₂ 0)) (bits_xor k r₀ r₁ 0 0 (omega arith) (omega arith)))
+    ap (λ (n : ℕ). crc_bits k n 0) parts
+    ∙ bits_xor k (bit_xor r₃ r₂) (bit_xor r₁ r₀) 0 0 (omega (arith, high)) (omega (arith, low))
+    ∙ ap₂ bit_xor (bits_xor k r₃ r₂ 0 0 (omega arith) (omega arith)) (bits_xor k r₁ r₀ 0 0 (omega arith) (omega arith))
   where
-    r₀ : ℕ
-    r₀ = r % 2 ^ 8 * 2 ^ 0
-
-    r₁ : ℕ
-    r₁ = r / 2 ^ 8 % 2 ^ 8 * 2 ^ 8
+    r₃ : ℕ
+    r₃ = r / 2 ^ 24 * 2 ^ 24
 
     r₂ : ℕ
     r₂ = r / 2 ^ 16 % 2 ^ 8 * 2 ^ 16
 
-    r₃ : ℕ
-    r₃ = r / 2 ^ 24 % 2 ^ 8 * 2 ^ 24
+    r₁ : ℕ
+    r₁ = r / 2 ^ 8 % 2 ^ 8 * 2 ^ 8
 
-    lower_two : bit_xor r₀ r₁ ≡ r % 2 ^ 16
-    lower_two = xor_comm r₀ r₁ ∙ xor_shifted (r / 2 ^ 8 % 2 ^ 8) 8 r₀ (omega arith) ∙ omega arith
+    r₀ : ℕ
+    r₀ = r % 2 ^ 8 * 2 ^ 0
 
-    lower_three : bit_xor (bit_xor r₀ r₁) r₂ ≡ r % 2 ^ 24
-    lower_three =
-        ap (λ (n : ℕ). bit_xor n r₂) lower_two
-        ∙ xor_comm (r % 2 ^ 16) r₂
-        ∙ xor_shifted (r / 2 ^ 16 % 2 ^ 8) 16 (r % 2 ^ 16) (omega arith)
-        ∙ omega arith
+    high : bit_xor r₃ r₂ ≡ r / 2 ^ 24 * 2 ^ 24 + r / 2 ^ 16 % 2 ^ 8 * 2 ^ 16
+    high = xor_shifted (r / 2 ^ 24) 24 (r / 2 ^ 16 % 2 ^ 8 * 2 ^ 16) (omega arith)
 
-    all_four : bit_xor (bit_xor (bit_xor r₀ r₁) r₂) r₃ ≡ r
-    all_four =
-        ap (λ (n : ℕ). bit_xor n r₃) lower_three
-        ∙ xor_comm (r % 2 ^ 24) r₃
-        ∙ xor_shifted (r / 2 ^ 24 % 2 ^ 8) 24 (r % 2 ^ 24) (omega arith)
-        ∙ omega arith
+    low : bit_xor r₁ r₀ ≡ r / 2 ^ 8 % 2 ^ 8 * 2 ^ 8 + r % 2 ^ 8 * 2 ^ 0
+    low = xor_shifted (r / 2 ^ 8 % 2 ^ 8) 8 (r % 2 ^ 8 * 2 ^ 0) (omega arith)
+
+    parts : r ≡ bit_xor (bit_xor r₃ r₂) (bit_xor r₁ r₀)
+    parts =
+        let halves : r ≡ r / 2 ^ 16 * 2 ^ 16 + bit_xor r₁ r₀ = omega (arith, low) in
+        let upper : bit_xor r₃ r₂ ≡ r / 2 ^ 16 * 2 ^ 16 = omega (arith, high) in
+        halves
+        ∙ sym (xor_shifted (r / 2 ^ 16) 16 (bit_xor r₁ r₀) (omega (arith, low)))
+        ∙ ap (λ (n : ℕ). bit_xor n (bit_xor r₁ r₀)) (sym upper)
+
+-- the same, joined from the lowest byte on
+pub register_from_lowest : (k r : ℕ) → r < 2 ^ 32
+    → crc_bits k r 0
+    ≡ bit_xor (bit_xor (bit_xor (crc_bits k (r % 2 ^ 8 * 2 ^ 0) 0) (crc_bits k (r / 2 ^ 8 % 2 ^ 8 * 2 ^ 8) 0))
+    (crc_bits k (r / 2 ^ 16 % 2 ^ 8 * 2 ^ 16) 0))
+    (crc_bits k (r / 2 ^ 24 % 2 ^ 8 * 2 ^ 24) 0)
+register_from_lowest k r h =
+    let highest : r / 2 ^ 24 % 2 ^ 8 ≡ r / 2 ^ 24 = omega arith in
+    rw highest
+    (register_by_bytes k r h
+    ∙ turned (crc_bits k (r / 2 ^ 24 * 2 ^ 24) 0) (crc_bits k (r / 2 ^ 16 % 2 ^ 8 * 2 ^ 16) 0) (crc_bits k (r / 2 ^ 8 % 2 ^ 8 * 2 ^ 8) 0) (crc_bits k (r % 2 ^ 8 * 2 ^ 0) 0))
+  where
+    turned : (c₃ c₂ c₁ c₀ : ℕ) → bit_xor (bit_xor c₃ c₂) (bit_xor c₁ c₀) ≡ bit_xor (bit_xor (bit_xor c₀ c₁) c₂) c₃
+    turned c₃ c₂ c₁ c₀ =
+        xor_comm (bit_xor c₃ c₂) (bit_xor c₁ c₀)
+        ∙ ap₂ bit_xor (xor_comm c₁ c₀) (xor_comm c₃ c₂)
+        ∙ sym (xor_assoc (bit_xor c₀ c₁) c₂ c₃)

@@ -1,12 +1,13 @@
 -- Zero data shifts a register with room above it, so that a byte's step is a shift and two table entries.
 use Rattle.std.proofs.Common.{◌≡◌, ℕ, zero, suc, ◌+◌, ◌*◌, ◌/◌, ◌%◌, ◌^◌, ◌<◌, sym, ap, ◌∙◌, subst, ap₂, mod-lt, mul_assoc, mul_comm, suc-add, mul-le-mul_left, pow-suc, zero-add, arith, pow_pos}
 use lib.Arith.{lt-one}
+use lib.Pow.{split}
 use lib.Bits.{bit_xor, xor_comm, xor_zero_r, xor_shifted}
 use Rattle.crc.specs.Crc.{crc_bit, crc_bits, crc_byte}
 use Rattle.crc.proofs.Linear.{byte_xor}
 
 -- past the bits of b the data is zero
-bits_then_zeros : (j m r b : ℕ) → b < 2 ^ j → crc_bits (j + m) r b ≡ crc_bits m (crc_bits j r b) 0
+pub bits_then_zeros : (j m r b : ℕ) → b < 2 ^ j → crc_bits (j + m) r b ≡ crc_bits m (crc_bits j r b) 0
 unfolding crc_bits
 bits_then_zeros zero m r b h = ap₂ (λ (n c : ℕ). crc_bits n r c) (zero-add m) (lt-one h)
 bits_then_zeros (suc j) m r b h =
@@ -38,7 +39,7 @@ bits_shift (suc k) r h =
     room = omega (arith, h, once, mul-le-mul_left (r * 2) (pow_pos k))
 
 pub byte_by_tables : (r b : ℕ) → r < 2 ^ 32
-    → bit_xor (bit_xor (r * 2 ^ 8 % 2 ^ 32) (crc_byte (r / 2 ^ 24 % 2 ^ 8 * 2 ^ 24) 0)) (crc_byte 0 b) ≡ crc_byte r b
+    → bit_xor (bit_xor (r * 2 ^ 8 % 2 ^ 32) (crc_byte (r / 2 ^ 24 * 2 ^ 24) 0)) (crc_byte 0 b) ≡ crc_byte r b
 unfolding crc_byte
 byte_by_tables r b h =
     ap (λ (n : ℕ). bit_xor n (crc_byte 0 b))
@@ -50,7 +51,7 @@ byte_by_tables r b h =
     ∙ ap (λ (n : ℕ). crc_byte n b) (xor_zero_r r)
   where
     high : ℕ
-    high = r / 2 ^ 24 % 2 ^ 8 * 2 ^ 24
+    high = r / 2 ^ 24 * 2 ^ 24
 
     low : ℕ
     low = r % 2 ^ 24
@@ -58,5 +59,12 @@ byte_by_tables r b h =
     shifted : r * 2 ^ 8 % 2 ^ 32 ≡ r % 2 ^ 24 * 2 ^ 8
     shifted = omega arith
 
-    whole : bit_xor high low ≡ r
-    whole = xor_shifted (r / 2 ^ 24 % 2 ^ 8) 24 (r % 2 ^ 24) (mod-lt r (pow_pos 24)) ∙ omega arith
+    whole : bit_xor (r / 2 ^ 24 * 2 ^ 24) (r % 2 ^ 24) ≡ r
+    whole = xor_shifted (r / 2 ^ 24) 24 (r % 2 ^ 24) (mod-lt r (pow_pos 24)) ∙ split r 24
+
+-- the same, by the register's highest byte as the code has it
+pub byte_by_highest : (r b : ℕ) → r < 2 ^ 32
+    → bit_xor (bit_xor (r * 2 ^ 8 % 2 ^ 32) (crc_byte (r / 2 ^ 24 % 2 ^ 8 * 2 ^ 24) 0)) (crc_byte 0 b) ≡ crc_byte r b
+byte_by_highest r b h =
+    let highest : r / 2 ^ 24 % 2 ^ 8 ≡ r / 2 ^ 24 = omega arith in
+    rw highest (byte_by_tables r b h)

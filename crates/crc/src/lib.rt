@@ -1,7 +1,7 @@
 //! The 32-bit CRC register of IEEE 802.3, as the receiver keeps it.
 #![tactic(auto)]
 
-ghost use Rattle.std.specs.Prelude.{◌≡◌, ◌==◌};
+ghost use Rattle.std.specs.Prelude.{◌≡◌, ◌==◌, fold};
 ghost use Rattle.crc.specs.Crc.{crc_byte, crc_over, start, residue};
 
 mod lookup;
@@ -22,12 +22,20 @@ pub fn byte(register: u32, value: u8) -> u32
 }
 
 /// The register after more bytes.
+#[tactic(auto, using(crate::proofs::Over::crc_over_eights))]
 pub fn slice(register: u32, bytes: &[u8]) -> u32
     ensures value { result ≡ crc_over register bytes.now }
 {
-    let (eights, rest) = bytes.as_chunks::<8>();
-    let current = eights.iter().fold(register, step::eight);
+    let (chunks, rest) = bytes.as_chunks::<8>();
+    let current = eights(register, chunks);
     each(current, rest)
+}
+
+/// The register after more bytes, eight at a time.
+fn eights(register: u32, chunks: &[[u8; 8]]) -> u32
+    ensures value { result ≡ fold crc_over register chunks.now }
+{
+    chunks.iter().fold(register, step::eight)
 }
 
 /// The register after more bytes, one at a time.

@@ -7,7 +7,7 @@ ghost use Rattle.crc.specs.Crc.{crc_bits, crc_byte, crc_over};
 use crate::lookup::{data, register, top};
 
 /// The register after one more byte.
-#[tactic(auto, using(crate::proofs::Shift::byte_by_tables, std::proofs::lemmas::Nat::xor_comm), unfolding(crate::specs::Crc::crc_byte))]
+#[tactic(auto, using(crate::proofs::Shift::byte_by_highest, std::proofs::lemmas::Nat::xor_comm), unfolding(crate::specs::Crc::crc_byte))]
 pub(crate) fn one(before: u32, value: u8) -> u32
     ensures value { result ≡ crc_byte before value }
 {
@@ -25,7 +25,7 @@ pub(crate) fn eight(before: u32, bytes: &[u8; 8]) -> u32
 
 /// The register after eight zero bytes. Its lowest byte is named first, since it needs no shift: with the highest first
 /// a slice took 4 % longer.
-#[tactic(auto, using(crate::proofs::Parts::register_by_bytes))]
+#[tactic(auto, using(crate::proofs::Parts::register_from_lowest))]
 fn register_part(before: u32) -> u32
     ensures value { result ≡ crc_bits 64 before 0 }
 {
