@@ -1,5 +1,5 @@
 -- One more buffer, in a list that is sound.
-use Rattle.std.proofs.Common.{◌≡◌, ℕ, true, false, List, [], ◌∷◌, ◌++◌, Ok, refl, append_assoc, append-nil, arith}
+use Rattle.std.proofs.Common.{◌≡◌, ℕ, ◌-◌, ◌*◌, ◌<◌, true, false, List, [], ◌∷◌, ◌++◌, length, Ok, refl, append_assoc, append-nil, arith}
 use Rattle.std.proofs.lemmas.Bool.{and_from, and_parts, not_from_false}
 use Rattle.std.proofs.lemmas.Bool.Decides.{nat_tests}
 use Rattle.memory.specs.declared.address.Page.{Page}
@@ -17,8 +17,8 @@ sound_push size f p before (y ∷ bs) x s a b =
     and_from _ _ h.0 (sound_push size f p (before ++ y ∷ []) bs x h.1 a c)
 
 pub added_sound : (l : Shape) (x : Buffer) → add_answer l x ≡ Ok tt → sound l.size l.rbegin l.rend [] l.buffers ≡ true →
-    sound l.size l.rbegin l.rend [] (l.buffers ++ x ∷ []) ≡ true
+    (length l.buffers < 32 * (l.rend.0 - l.rbegin.0)) × (sound l.size l.rbegin l.rend [] (l.buffers ++ x ∷ []) ≡ true)
 added_sound l x e s =
     let a : fits l.size l.rbegin l.rend x ≡ true = grind (arith, nat_tests) in
     let b : shares l.buffers x ≡ false = grind (arith, nat_tests) in
-    sound_push l.size l.rbegin l.rend [] l.buffers x s a b
+    (grind (arith, nat_tests), sound_push l.size l.rbegin l.rend [] l.buffers x s a b)

@@ -11,4 +11,4 @@ invariant_of-self-clause-apart c =
     let l = c.args.self.now in
     let x : Buffer = record { start = c.args.start; length = c.args.length } in
     let room : l.count < length l.buffers = grind (arith, common_steps) in
-    rw (take_more_set l.buffers l.count x room) (added_sound (shape l) x (sym c.in_ok-judge.ensures) l.apart)
+    rw (take_more_set l.buffers l.count x room) (added_sound (shape l) x (sym c.in_ok-judge.ensures) l.apart).1
