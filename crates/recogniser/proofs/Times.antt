@@ -1,5 +1,5 @@
 -- How often an address stands in a list decides whether it stands there: so the members after an admit follow from its clause
--- `after`, whatever the place of the new entry. No proof cites it: the check finds the clause `members` by itself.
+-- `after`, whatever the place of the new entry.
 use Rattle.std.proofs.Common.{◌≡◌, ℕ, ◌+◌, Bool, true, false, ◌||◌, if◌then◌else◌, ltb, List, [], ◌∷◌, sym, refl, ap, ◌∙◌, add-zero, zero-add, arith}
 use Rattle.std.proofs.lemmas.List.Sums.{sum_by-cons}
 use Rattle.std.specs.Str.{bytes_eq}

@@ -25,6 +25,7 @@ impl<'a> Sheet<'a> {
     }
 
     /// Adds an address to those in use. Its place among them is open.
+    #[tactic(auto, using(crate::proofs::Times::among_from_times))]
     pub fn admit(&mut self, address: [u8; 6]) -> Result<(), Refusal>
         ensures answer { result ≡ admit_answer self.old address }
         ensures after { Admits result self.old address self.new }
@@ -61,7 +62,6 @@ impl<'a> Sheet<'a> {
     fn insert(&mut self, address: [u8; 6])
         requires room { self.old.count < length self.old.entries.now }
         ensures after { Admitted self.old address self.new }
-        ensures members { (a : List ℕ) → sheet_members self.new a ≡ (sheet_members self.old a || bytes_eq a address) }
         ensures lent { self.new.entries.ghost_name ≡ self.old.entries.ghost_name }
     {
         self.entries[self.count] = address;
